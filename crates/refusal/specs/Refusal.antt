@@ -1,5 +1,5 @@
 -- Document 01's table of refusals: the number and the values also returned, for each case.
-use mathlib.Core.List.{List, [], _∷_}
+use mathlib.Core.List.{[], _∷_}
 use Prim.Native.Nat.{ℕ}
 use Rattle.refusal.specs.Words.{Told, taken, refused}
 use Rattle.refusal.specs.declared.Refusal.{Refusal}

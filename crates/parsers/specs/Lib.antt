@@ -1,0 +1,4 @@
+pub mod Bits
+pub mod Field
+pub mod Text
+pub mod Scan
