@@ -5,12 +5,12 @@ use Prim.Native.Nat.{ℕ}
 use lib.Dec.{eqb}
 use lib.ListN.{getD}
 use Rattle.refusal.specs.Words.{pick, Told, taken, refused}
-use Rattle.refusal.specs.Refusal.{told}
+use Rattle.refusal.specs.Refusal.{rowOf, told}
 use Rattle.refusal.specs.declared.Refusal.{Refusal}
 use Rattle.refusal.specs.declared.Refusal.the-variants.{LineTooLong, Line, Checksum, MessageNumber, FragmentNumber, PayloadTooLong, Fill, Armour, Short, OtherType, UnknownType, Room, Request}
 
 -- the refusal of a number and its values
-abbrev byNumber : ℕ → List ℕ → Refusal
+abbrev pub byNumber : ℕ → List ℕ → Refusal
 byNumber n values =
     pick (eqb n 1) LineTooLong
     (pick (eqb n 2) Line
@@ -25,25 +25,30 @@ byNumber n values =
     (pick (eqb n 11) (UnknownType (getD values 0 0))
     (pick (eqb n 12) Room Request)))))))))))
 
--- what a refusal tells, read back
-abbrev pub untold : {A : Type 0} → Told A → Refusal
-untold (taken a) = Request
-untold (refused n values) = byNumber n values
+read-back : (r : Refusal) → byNumber (rowOf r .number) (rowOf r .values) ≡ r
+read-back LineTooLong = refl
+read-back Line = refl
+read-back (Checksum expected found) = refl
+read-back MessageNumber = refl
+read-back FragmentNumber = refl
+read-back PayloadTooLong = refl
+read-back Fill = refl
+read-back (Armour offset) = refl
+read-back Short = refl
+read-back (OtherType kind) = refl
+read-back (UnknownType kind) = refl
+read-back Room = refl
+read-back Request = refl
 
-pub untold-told : (A : Type 0) (r : Refusal) → untold (told {A = A} r) ≡ r
-untold-told A LineTooLong = refl
-untold-told A Line = refl
-untold-told A (Checksum expected found) = refl
-untold-told A MessageNumber = refl
-untold-told A FragmentNumber = refl
-untold-told A PayloadTooLong = refl
-untold-told A Fill = refl
-untold-told A (Armour offset) = refl
-untold-told A Short = refl
-untold-told A (OtherType kind) = refl
-untold-told A (UnknownType kind) = refl
-untold-told A Room = refl
-untold-told A Request = refl
+-- what is told, as an answer of any enum that has a case for a result and one for a refusal
+abbrev pub untold : {A B : Type 0} → (A → B) → (Refusal → B) → Told A → B
+untold result refusal (taken a) = result a
+untold result refusal (refused n values) = refusal (byNumber n values)
 
+-- a refusal told and read back is that refusal
+pub untold-told : {A B : Type 0} (result : A → B) (refusal : Refusal → B) (r : Refusal) → untold result refusal (told r) ≡ refusal r
+untold-told result refusal r = ap refusal (read-back r)
+
+-- two refusals that tell the same are the same
 pub same-refusal : (A : Type 0) (a b : Refusal) → told {A = A} a ≡ told b → a ≡ b
-same-refusal A a b e = sym (untold-told A a) ∙ ap untold e ∙ untold-told A b
+same-refusal A a b e = sym (read-back a) ∙ ap (untold (λ (x : A). Request) (λ (r : Refusal). r)) e ∙ read-back b

@@ -1,6 +1,6 @@
 -- The words that every definition shares.
 use mathlib.Core.Bool.{Bool, true, false}
-use mathlib.Core.List.{List, _++_}
+use mathlib.Core.List.{List, [], _∷_, _++_}
 use Prim.Native.Nat.{ℕ}
 use lib.ListN.{length, drop}
 
@@ -14,6 +14,30 @@ pub data Told (A : Type 0) : Type 0 where
   taken : A → Told A
   refused : ℕ → List ℕ → Told A
 
--- a lent buffer with the bytes s standing first: "All further bytes stay" (document 01, 'Refusal numbers')
+-- the number that an answer on paper bears; 0 where nothing is refused
+abbrev pub numberIn : {A : Type 0} → Told A → ℕ
+numberIn (taken a) = 0
+numberIn (refused n values) = n
+
+-- one of document 01's checks: whether it fails, and the number and values that are then told
+pub record Check : Type 0 where
+  pub fails : Bool
+  pub number : ℕ
+  pub values : List ℕ
+
+abbrev pub check : Bool → ℕ → List ℕ → Check
+check fails number values = record { fails = fails; number = number; values = values }
+
+-- checks taken in order: "A refusal is given exactly when its condition holds and none earlier does" (document 01, 'Refusal numbers')
+abbrev pub checked : {A : Type 0} → List Check → Told A → Told A
+checked [] t = t
+checked (c ∷ cs) t = pick (c .fails) (refused (c .number) (c .values)) (checked cs t)
+
+-- a lent buffer with the bytes s standing first: "All further bytes stay"
 abbrev pub over : List ℕ → List ℕ → List ℕ
 over s buffer = s ++ drop (length s) buffer
+
+-- a lent buffer after a call that fills it with s: "Refused calls write nothing to output buffers"
+abbrev pub left : {A : Type 0} → Told A → List ℕ → List ℕ → List ℕ
+left (taken a) s buffer = over s buffer
+left (refused n values) s buffer = buffer

@@ -1,6 +1,6 @@
 // Why a call is refused (errors.rs): the thirteen refusals of document 01, one enum for every layer.
 ghost use mathlib.Core.Path.{_≡_};
-ghost use Rattle.refusal.specs.Refusal.{numberOf};
+ghost use Rattle.refusal.specs.Refusal.{rowOf};
 
 // In document 01's order, from 1 to 13, with what is also returned.
 pub enum Refusal {
@@ -21,7 +21,7 @@ pub enum Refusal {
 
 // Document 01's number of a refusal, for programs that print it.
 pub fn number(refusal: Refusal) -> u8
-    ensures { λ r. ⌜ r ≡ numberOf refusal ⌝ }
+    ensures { λ r. ⌜ r ≡ rowOf refusal .number ⌝ }
 {
     match refusal {
         Refusal::LineTooLong => 1,

@@ -1,0 +1,3 @@
+pub mod Armour
+pub mod Unarmor
+pub mod Soundings

@@ -1,0 +1,112 @@
+// Unarmoring: the six bits of each payload character, joined and cut into bytes (messages/mod.rs, `unarmor`).
+use refusal::Refusal;
+ghost use mathlib.Core.Path.{_≡_};
+ghost use mathlib.Core.List.{_++_};
+ghost use Prim.Native.Nat.{_*_, _≤_, _<_};
+ghost use lib.ListN.{length, drop};
+ghost use Rattle.parsers.specs.Bits.{val, pack};
+ghost use Rattle.armour.specs.Armour.{meaning, firstBad, stream};
+ghost use Rattle.armour.specs.Unarmor.{Unarmors};
+
+// How many bytes stand first in the output, or why there are none.
+pub enum Unarmored {
+    Bytes(usize),
+    Refused(Refusal),
+}
+
+// The six-bit value of an armour byte, and 64 for any other.
+fn six(b: u8) -> u8
+    ensures { λ r. ⌜ r ≡ meaning b ⌝ }
+{
+    match b {
+        48..=87 => b - 48,
+        96..=119 => b - 56,
+        _ => 64,
+    }
+}
+
+// The lowest offset that holds no armour, or the length.
+fn first_bad(payload: &[u8]) -> usize
+    ensures { λ r. ⌜ r ≡ firstBad (now (payload .entry)) ⌝ }
+{
+    let mut i: usize = 0;
+    let at = loop {
+        if i >= payload.len() {
+            break i;
+        }
+        if six(payload[i]) > 63 {
+            break i;
+        }
+        i += 1;
+    };
+    at
+}
+
+// The six bits of character i with the fill cleared, and 0 past the end.
+fn six_at(payload: &[u8], fill: usize, i: usize) -> u32
+    requires { ⌜ fill ≤ 5 ⌝ }
+    ensures { λ r. ⌜ r ≡ val (stream (now (payload .entry)) fill) (i * 6) 6 ⌝ }
+{
+    if i >= payload.len() {
+        return 0;
+    }
+    let v = (six(payload[i]) & 63) as u32;
+    if i < payload.len() - 1 {
+        v
+    } else {
+        (v >> fill) << fill
+    }
+}
+
+// Byte j of the output: eight of the twelve bits of two characters.
+fn byte_at(payload: &[u8], fill: usize, j: usize) -> u8
+    requires { ⌜ (fill ≤ 5) × (j < 288) ⌝ }
+    ensures { λ r. ⌜ r ≡ val (stream (now (payload .entry)) fill) (j * 8) 8 ⌝ }
+{
+    let q = j * 8 / 6;
+    let off = j * 8 % 6;
+    let high = six_at(payload, fill, q);
+    let low = six_at(payload, fill, q + 1);
+    let two = (high << 6) | low;
+    ((two >> (4 - off)) & 255) as u8
+}
+
+// The output's `need` bytes, from its start.
+fn spread(payload: &[u8], fill: usize, need: usize, out: &mut [u8])
+    requires { ⌜ (fill ≤ 5) × ((need ≤ 288) × (need ≤ length (now out))) ⌝ }
+    ensures { λ _. ⌜ now (out .exit) ≡ pack 8 need (stream (now (payload .entry)) fill) ++ drop need (now (out .entry)) ⌝ }
+{
+    let mut j: usize = 0;
+    while j < need {
+        out[j] = byte_at(payload, fill, j);
+        j += 1;
+    }
+}
+
+// Unarmors a payload of at most 384 characters into `out`: refusals 7, 6, 12 and 8, in that order.
+pub fn unarmor(payload: &[u8], fill: usize, out: &mut [u8]) -> Unarmored
+    ensures { λ r. ⌜ Unarmors (now (payload .entry)) fill (now (out .entry)) r (now (out .exit)) ⌝ }
+{
+    let n = payload.len();
+    if fill > 5 {
+        return Unarmored::Refused(Refusal::Fill);
+    }
+    if n == 0 {
+        if fill > 0 {
+            return Unarmored::Refused(Refusal::Fill);
+        }
+    }
+    if n > 384 {
+        return Unarmored::Refused(Refusal::PayloadTooLong);
+    }
+    let need = (n * 6 + 7) / 8;
+    if out.len() < need {
+        return Unarmored::Refused(Refusal::Room);
+    }
+    let at = first_bad(payload);
+    if at < n {
+        return Unarmored::Refused(Refusal::Armour { offset: at });
+    }
+    spread(payload, fill, need, out);
+    Unarmored::Bytes(need)
+}

@@ -1,0 +1,70 @@
+-- Checks taken in order, once for every list of them: a refusal is given exactly when its condition holds and none earlier does. Assumes nothing.
+use mathlib.Core.Logic.{_↔_}
+use mathlib.Core.Path.{_≡_, refl, sym, ap}
+use mathlib.Core.Bool.{Bool, true, false, not, _&&_, and-eq-true-iff}
+use mathlib.Core.List.{List, [], _∷_, _++_}
+use Prim.Native.Nat.{ℕ}
+use borrow.Author.Tests.{eqb-false, not-true}
+use lib.Dec.{eqb}
+use Rattle.refusal.specs.Words.{taken, refused, numberIn, Check, checked, pick}
+use Rattle.refusal.specs.Order.{differs, distinct, Passed}
+
+-- the first and the rest of what `differs` says
+module _ (n : ℕ) (c : Check) (cs : List Check) (d : differs n (c ∷ cs) ≡ true) where
+  differs-first : c .number ≡ n → ⊥
+  differs-first = eqb-false (c .number) n (not-true (eqb (c .number) n) (and-eq-true-iff (not (eqb (c .number) n)) (differs n cs) .0 d .0))
+
+  differs-rest : differs n cs ≡ true
+  differs-rest = and-eq-true-iff (not (eqb (c .number) n)) (differs n cs) .0 d .1
+
+differs-at : (n : ℕ) (before : List Check) (c : Check) (after : List Check) → differs n (before ++ c ∷ after) ≡ true → c .number ≡ n → ⊥
+differs-at n [] c after d = differs-first n c after d
+differs-at n (b ∷ before) c after d = differs-at n before c after (differs-rest n b (before ++ c ∷ after) d)
+
+-- the three parts of what `distinct` says
+module _ (c : Check) (cs : List Check) (d : distinct (c ∷ cs) ≡ true) where
+  parts : (differs (c .number) cs ≡ true) × (not (eqb (c .number) 0) && distinct cs ≡ true)
+  parts = and-eq-true-iff (differs (c .number) cs) (not (eqb (c .number) 0) && distinct cs) .0 d
+
+  distinct-first : differs (c .number) cs ≡ true
+  distinct-first = parts .0
+
+  distinct-zero : c .number ≡ 0 → ⊥
+  distinct-zero = eqb-false (c .number) 0 (not-true (eqb (c .number) 0) (and-eq-true-iff (not (eqb (c .number) 0)) (distinct cs) .0 (parts .1) .0))
+
+  distinct-rest : distinct cs ≡ true
+  distinct-rest = and-eq-true-iff (not (eqb (c .number) 0)) (distinct cs) .0 (parts .1) .1
+
+module _ (A : Type 0) (a : A) where
+  -- a number that no check bears is not told
+  nowhere : (n : ℕ) (cs : List Check) → differs n cs ≡ true → (n ≡ 0 → ⊥) → numberIn (checked cs (taken a)) ≡ n → ⊥
+  nowhere n [] d z e = z (sym e)
+  nowhere n (c ∷ cs) d z e = go (c .fails) e (nowhere n cs (differs-rest n c cs d) z) where
+    go : (f : Bool) → numberIn (pick f (refused (c .number) (c .values)) (checked cs (taken a))) ≡ n → (numberIn (checked cs (taken a)) ≡ n → ⊥) → ⊥
+    go true e later = differs-first n c cs d e
+    go false e later = later e
+
+  only : (before : List Check) (c : Check) (after : List Check) → distinct (before ++ c ∷ after) ≡ true
+      → numberIn (checked (before ++ c ∷ after) (taken a)) ≡ c .number → Passed before × (c .fails ≡ true)
+  only [] c after d e = (tt, go (c .fails) e) where
+    go : (f : Bool) → numberIn (pick f (refused (c .number) (c .values)) (checked after (taken a))) ≡ c .number → f ≡ true
+    go true e = refl
+    go false e = absurd (nowhere (c .number) after (distinct-first c after d) (distinct-zero c after d) e)
+  only (b ∷ before) c after d e =
+      go (b .fails) refl e (only before c after (distinct-rest b (before ++ c ∷ after) d)) where
+        go : (f : Bool) → b .fails ≡ f → numberIn (pick f (refused (b .number) (b .values)) (checked (before ++ c ∷ after) (taken a))) ≡ c .number
+            → (numberIn (checked (before ++ c ∷ after) (taken a)) ≡ c .number → Passed before × (c .fails ≡ true))
+            → ((b .fails ≡ false) × Passed before) × (c .fails ≡ true)
+        go true p e later = absurd (differs-at (b .number) before c after (distinct-first b (before ++ c ∷ after) d) (sym e))
+        go false p e later = let r = later e in ((p, r .0), r .1)
+
+  pub given : (before : List Check) (c : Check) (after : List Check) → Passed before → c .fails ≡ true
+      → checked (before ++ c ∷ after) (taken a) ≡ refused (c .number) (c .values)
+  given [] c after p f = rw f
+  given (b ∷ before) c after p f = rw (p .0) (given before c after (p .1) f)
+
+  -- the theorem: the check whose number is told is the first that fails
+  pub exactly : (cs before : List Check) (c : Check) (after : List Check) → cs ≡ before ++ c ∷ after → distinct cs ≡ true
+      → (numberIn (checked cs (taken a)) ≡ c .number) ↔ (Passed before × (c .fails ≡ true))
+  exactly cs before c after e d =
+      rw e (only before c after (rw e at d), λ p. ap numberIn (given before c after (p .0) (p .1)))
