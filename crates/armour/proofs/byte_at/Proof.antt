@@ -1,14 +1,20 @@
 -- `byte_at`: two characters joined by a shift (`val-join`), the byte cut out of them by a shift and a mask (`val-field`). Assumes nothing.
 use mathlib.Core.Path.{refl}
-use Prim.Native.Nat.{_+_, _-_, _*_, _/_, _%_, _^_}
+use Prim.Native.Nat.{ℕ, _+_, _-_, _*_, _/_, _%_, _^_}
 use native.Mathlib.Omega.{arith}
-use lib.Bits.{bitOr, mask-lt}
+use lib.Bits.{bitAnd, mask-lt}
+use mir.Syntax.{w8}
+use mir.Val.{Fits}
 use Rattle.armour.specs.Armour.{stream}
 use Rattle.parsers.proofs.Laws.{val-join, val-field}
 use Rattle.armour.proofs.Laws.{stream-lt}
 use borrow.Author.Needs.{needs}
 use Rattle.armour.proofs.byte_at.Statement.{statement}
 use Rattle.armour.proofs.byte_at.Tie as tie
+
+-- eight bits fit a byte
+masked-fits : (x : ℕ) → Fits w8 (bitAnd x 255)
+masked-fits x = record { fits = mask-lt x 8 }
 
 mul-q : tie.Need-mul-q
 mul-q c = search needs
@@ -35,8 +41,7 @@ shr-result : tie.Need-shr-result
 shr-result c = search needs
 
 cast-result-2 : tie.Need-cast-result-2
-cast-result-2 c =
-    record { fits = mask-lt (bitOr (c .before .six-at .result * 64 % 2 ^ 32) (c .six-at2 .result) / 2 ^ (4 - c .before .before .before .args .j * 8 % 6)) 8 }
+cast-result-2 c = search masked-fits
 
 returns : tie.Need-returns
 returns c =
