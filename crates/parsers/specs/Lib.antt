@@ -2,3 +2,4 @@ pub mod Bits
 pub mod Field
 pub mod Text
 pub mod Scan
+pub mod Table
