@@ -4,10 +4,15 @@ use mathlib.Core.Path.{_≡_, refl, sym, ap}
 use mathlib.Core.Bool.{Bool, true, false, not, _&&_, and-eq-true-iff}
 use mathlib.Core.List.{List, [], _∷_, _++_}
 use Prim.Native.Nat.{ℕ}
+use native.Mathlib.Omega.{arith}
 use borrow.Author.Tests.{eqb-false, not-true}
 use lib.Dec.{eqb}
-use Rattle.refusal.specs.Words.{taken, refused, numberIn, Check, checked, pick}
+use Rattle.refusal.specs.Words.{Told, taken, refused, numberIn, Check, checked, pick}
 use Rattle.refusal.specs.Order.{differs, distinct, Passed}
+
+-- a result is no refusal
+clash : {A : Type 0} (a : A) (n : ℕ) (values : List ℕ) → taken a ≡ refused n values → ⊥
+clash a n values e = let z : _≡_ {A = ℕ} 0 1 = cc in omega arith
 
 -- the first and the rest of what `differs` says
 module _ (n : ℕ) (c : Check) (cs : List Check) (d : differs n (c ∷ cs) ≡ true) where
@@ -68,3 +73,26 @@ module _ (A : Type 0) (a : A) where
       → (numberIn (checked cs (taken a)) ≡ c .number) ↔ (Passed before × (c .fails ≡ true))
   exactly cs before c after e d =
       rw e (only before c after (rw e at d), λ p. ap numberIn (given before c after (p .0) (p .1)))
+
+-- checks that are followed by others: where all of them pass the others decide, and where one fails it is told
+pub later : {A : Type 0} (before after : List Check) (t : Told A) → Passed before → checked (before ++ after) t ≡ checked after t
+later [] after t p = refl
+later (b ∷ before) after t p = rw (p .0) (later before after t (p .1))
+
+pub stops : {A B : Type 0} (before after : List Check) (a : A) (t : Told B) (n : ℕ) (values : List ℕ)
+    → checked before (taken a) ≡ refused n values → checked (before ++ after) t ≡ refused n values
+stops [] after a t n values e = absurd (clash a n values e)
+stops (b ∷ before) after a t n values e = go (b .fails) e (stops before after a t n values) where
+  go : (f : Bool) → pick f (refused (b .number) (b .values)) (checked before (taken a)) ≡ refused n values
+      → (checked before (taken a) ≡ refused n values → checked (before ++ after) t ≡ refused n values)
+      → pick f (refused (b .number) (b .values)) (checked (before ++ after) t) ≡ refused n values
+  go true e more = cc
+  go false e more = more e
+
+pub passed : {A : Type 0} (cs : List Check) (a b : A) → checked cs (taken a) ≡ taken b → Passed cs
+passed [] a b e = tt
+passed (c ∷ cs) a b e = go (c .fails) refl e (passed cs a b) where
+  go : (f : Bool) → c .fails ≡ f → pick f (refused (c .number) (c .values)) (checked cs (taken a)) ≡ taken b
+      → (checked cs (taken a) ≡ taken b → Passed cs) → (c .fails ≡ false) × Passed cs
+  go true p e more = absurd (clash b (c .number) (c .values) (sym e))
+  go false p e more = (p, more e)
