@@ -1,7 +1,7 @@
 -- The laws of armour. Assumes nothing.
 use mathlib.Core.Logic.{⊎-elim}
 use mathlib.Core.Path.{_≡_, refl, sym, ap, _∙_}
-use mathlib.Core.Bool.{true, false}
+use mathlib.Core.Bool.{false}
 use mathlib.Core.List.{List, [], _∷_, map}
 use Prim.Native.Nat.{ℕ, zero, suc, _+_, _-_, _*_, _/_, _%_, _^_, _≤_, _<_}
 use native.Mathlib.Nat.{not-suc-le-zero, le-of-suc-le-suc}
@@ -9,32 +9,21 @@ use native.Mathlib.Numerals.{add-one, one-add}
 use lib.ListN.{length, getD, drop, drop-of-length-le}
 use lib.Seq.{drop-cons}
 use native.Mathlib.Omega.{arith}
-use borrow.Author.Tests.{le-leb, lt-leb, lt-ltb, le-ltb}
-use Rattle.armour.specs.Armour.{within, meaning, letter, firstBad, stream, size, unarmored}
+use borrow.Author.Tests.{lt-ltb, le-ltb}
+use Rattle.refusal.specs.Words.{within}
+use Rattle.refusal.proofs.Within.{in-range, below-range, above-range}
+use Rattle.armour.specs.Armour.{meaning, letter, firstBad, stream, size, unarmored}
 use Rattle.parsers.specs.Bits.{val, bitAt}
 use Rattle.parsers.proofs.Laws.{lt-or-le, length-pack, bit-lt, cut-lt, val-digit, cut-gone, cut-whole, cut-last}
-
-module _ (lo hi b : ℕ) where
-  pub inside : lo ≤ b → b ≤ hi → within lo hi b ≡ true
-  unfolding within
-  inside p q = simp (le-leb lo b p, le-leb b hi q)
-
-  pub under : b < lo → within lo hi b ≡ false
-  unfolding within
-  under p = simp (lt-leb lo b p)
-
-  pub over : lo ≤ b → hi < b → within lo hi b ≡ false
-  unfolding within
-  over p q = simp (le-leb lo b p, lt-leb b hi q)
 
 module _ (b : ℕ) where
   pub meaning-low : 48 ≤ b → b ≤ 87 → b - 48 ≡ meaning b
   unfolding meaning
-  meaning-low p q = rw (inside 48 87 b p q)
+  meaning-low p q = rw (in-range 48 87 b p q)
 
   pub meaning-high : 96 ≤ b → b ≤ 119 → b - 56 ≡ meaning b
   unfolding meaning
-  meaning-high p q = rw (over 48 87 b (omega arith) (omega arith), inside 96 119 b p q)
+  meaning-high p q = rw (above-range 48 87 b (omega arith) (omega arith), in-range 96 119 b p q)
 
   pub meaning-none : within 48 87 b ≡ false → within 96 119 b ≡ false → 64 ≡ meaning b
   unfolding meaning
@@ -97,17 +86,17 @@ no-armour b e h = omega arith
 pub letter-meaning : (b : ℕ) → meaning b < 64 → letter (meaning b) ≡ b
 letter-meaning b h =
     ⊎-elim
-    (λ l. absurd (no-armour b (meaning-none b (under 48 87 b l) (under 96 119 b (omega arith))) h))
+    (λ l. absurd (no-armour b (meaning-none b (below-range 48 87 b l) (below-range 96 119 b (omega arith))) h))
     (λ l. ⊎-elim (low l) (λ m. ⊎-elim (between l m) (λ k. ⊎-elim (high k) (beyond k) (lt-or-le b 120)) (lt-or-le b 96)) (lt-or-le b 88))
     (lt-or-le b 48) where
       low : 48 ≤ b → b < 88 → letter (meaning b) ≡ b
       low l m = rw (← meaning-low b l (omega arith), lt-ltb (b - 48) 40 (omega arith)) (omega arith)
 
       between : 48 ≤ b → 88 ≤ b → b < 96 → letter (meaning b) ≡ b
-      between l m k = absurd (no-armour b (meaning-none b (over 48 87 b l (omega arith)) (under 96 119 b k)) h)
+      between l m k = absurd (no-armour b (meaning-none b (above-range 48 87 b l (omega arith)) (below-range 96 119 b k)) h)
 
       high : 96 ≤ b → b < 120 → letter (meaning b) ≡ b
       high k j = rw (← meaning-high b k (omega arith), le-ltb (b - 56) 40 (omega arith)) (omega arith)
 
       beyond : 96 ≤ b → 120 ≤ b → letter (meaning b) ≡ b
-      beyond k j = absurd (no-armour b (meaning-none b (over 48 87 b (omega arith) (omega arith)) (over 96 119 b k (omega arith))) h)
+      beyond k j = absurd (no-armour b (meaning-none b (above-range 48 87 b (omega arith) (omega arith)) (above-range 96 119 b k (omega arith))) h)

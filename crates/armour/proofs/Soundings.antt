@@ -2,7 +2,8 @@
 use mathlib.Core.Path.{_≡_, refl}
 use mathlib.Core.List.{map}
 use Rattle.parsers.specs.Bits.{val, bitAt, cut, pack}
-use Rattle.armour.specs.Armour.{within, meaning, stream}
+use Rattle.refusal.specs.Words.{within}
+use Rattle.armour.specs.Armour.{meaning, stream}
 use Rattle.armour.specs.Unarmor.{badFill, answerOf}
 use Rattle.armour.specs.Soundings.{run, soundings}
 

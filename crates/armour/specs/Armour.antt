@@ -1,14 +1,10 @@
 -- Payload armour, from the AIVDM description, 'AIVDM/AIVDO Payload Armoring': "Each character represents six bits of data".
-use mathlib.Core.Bool.{Bool, _&&_}
 use mathlib.Core.List.{List, [], _∷_, map}
 use Prim.Native.Nat.{ℕ, suc, _+_, _-_, _*_, _/_}
-use lib.Dec.{leb, ltb}
+use lib.Dec.{ltb}
 use lib.ListN.{length}
-use Rattle.refusal.specs.Words.{pick}
+use Rattle.refusal.specs.Words.{pick, within}
 use Rattle.parsers.specs.Bits.{bitAt, cut, pack}
-
-unfoldable pub within : ℕ → ℕ → ℕ → Bool
-within lo hi b = leb lo b && leb b hi
 
 -- its table: `0` to `W` (48 to 87) are 0 to 39, and "`" to `w` (96 to 119) are 40 to 63; "the intermediate range "X" (88) to "_" (95) is not used".
 -- 64, which is no six bits, stands for every byte that the table has not

@@ -1,2 +1,3 @@
 pub mod Unique
 pub mod Order
+pub mod Within

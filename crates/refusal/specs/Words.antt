@@ -1,13 +1,18 @@
 -- The words that every definition shares.
-use mathlib.Core.Bool.{Bool, true, false}
+use mathlib.Core.Bool.{Bool, true, false, _&&_}
 use mathlib.Core.List.{List, [], _∷_, _++_}
 use Prim.Native.Nat.{ℕ}
+use lib.Dec.{leb}
 use lib.ListN.{length, drop}
 
 -- x where b is true, else y
 abbrev pub pick : {A : Type 0} → Bool → A → A → A
 pick true x y = x
 pick false x y = y
+
+-- b lies between lo and hi, both counted
+unfoldable pub within : ℕ → ℕ → ℕ → Bool
+within lo hi b = leb lo b && leb b hi
 
 -- what is answered on paper: a result, or a refusal by document 01's number with the values also returned
 pub data Told (A : Type 0) : Type 0 where

@@ -1,6 +1,6 @@
 -- `byte_at`: two characters joined by a shift (`val-join`), the byte cut out of them by a shift and a mask (`val-field`). Assumes nothing.
 use mathlib.Core.Path.{refl}
-use Prim.Native.Nat.{ℕ, _+_, _-_, _*_, _/_, _%_, _^_}
+use Prim.Native.Nat.{ℕ, _+_, _-_, _*_, _/_, _%_}
 use native.Mathlib.Omega.{arith}
 use lib.Bits.{bitAnd, mask-lt}
 use mir.Syntax.{w8}
