@@ -96,3 +96,11 @@ passed (c ∷ cs) a b e = go (c .fails) refl e (passed cs a b) where
       → (checked cs (taken a) ≡ taken b → Passed cs) → (c .fails ≡ false) × Passed cs
   go true p e more = absurd (clash b (c .number) (c .values) (sym e))
   go false p e more = (p, more e)
+
+-- what passes is what was to be taken
+pub taken-same : {A : Type 0} (cs : List Check) (a b : A) → checked cs (taken a) ≡ taken b → a ≡ b
+taken-same [] a b e = cc
+taken-same (c ∷ cs) a b e = go (c .fails) e (taken-same cs a b) where
+  go : (f : Bool) → pick f (refused (c .number) (c .values)) (checked cs (taken a)) ≡ taken b → (checked cs (taken a) ≡ taken b → a ≡ b) → a ≡ b
+  go true e more = absurd (clash b (c .number) (c .values) (sym e))
+  go false e more = more e
