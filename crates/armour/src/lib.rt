@@ -15,7 +15,7 @@ pub enum Unarmored {
 }
 
 // The six-bit value of an armour byte, and 64 for any other.
-fn six(b: u8) -> u8
+pub fn six(b: u8) -> u8
     ensures { λ r. ⌜ r ≡ meaning b ⌝ }
 {
     match b {
