@@ -27,7 +27,7 @@ unfoldable pub lacks : List ℕ → List Span → Bool
 lacks d [] = false
 lacks d (s ∷ rows) = ltb (length d * 8) (s .at + s .width) || lacks d rows
 
--- 9: "message ends inside a needed field, or is empty"
+-- 9: "message ends inside a needed field, or is empty". The head is needed whatever the part, so a cut part number decides nothing
 unfoldable pub tooShort : List ℕ → Bool
 tooShort d = lacks d (row.needed (numberAt d row.partNumber))
 
