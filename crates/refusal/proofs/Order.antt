@@ -1,8 +1,8 @@
 -- Checks taken in order, once for every list of them: a refusal is given exactly when its condition holds and none earlier does. Assumes nothing.
 use mathlib.Core.Logic.{_↔_}
-use mathlib.Core.Path.{_≡_, refl, sym, ap}
+use mathlib.Core.Path.{_≡_, refl, sym, ap, subst}
 use mathlib.Core.Bool.{Bool, true, false, not, _&&_, and-eq-true-iff}
-use mathlib.Core.List.{List, [], _∷_, _++_}
+use mathlib.Core.List.{List, [], _∷_, _++_, append-nil}
 use Prim.Native.Nat.{ℕ}
 use native.Mathlib.Omega.{arith}
 use borrow.Author.Tests.{eqb-false, not-true}
@@ -103,4 +103,24 @@ taken-same [] a b e = cc
 taken-same (c ∷ cs) a b e = go (c .fails) e (taken-same cs a b) where
   go : (f : Bool) → pick f (refused (c .number) (c .values)) (checked cs (taken a)) ≡ taken b → (checked cs (taken a) ≡ taken b → a ≡ b) → a ≡ b
   go true e more = absurd (clash b (c .number) (c .values) (sym e))
+  go false e more = more e
+
+-- what checks tell does not depend on what is to be taken
+pub passing : {A : Type 0} (cs : List Check) (t : Told A) → Passed cs → checked cs t ≡ t
+passing [] t p = refl
+passing (c ∷ cs) t p = rw (p .0) (passing cs t (p .1))
+
+pub failing : {A B : Type 0} (cs : List Check) (a : A) (t : Told B) (n : ℕ) (values : List ℕ) → checked cs (taken a) ≡ refused n values → checked cs t ≡ refused n values
+failing cs a t n values e = rw append-nil at (stops cs [] a t n values e)
+
+-- the number told is one that a check bears: what holds of each holds of it
+abbrev pub Each : (ℕ → Type 0) → List Check → Type 0
+Each P [] = Unit {0}
+Each P (c ∷ cs) = P (c .number) × Each P cs
+
+pub told-each : {A : Type 0} (P : ℕ → Type 0) (cs : List Check) (a : A) (n : ℕ) (values : List ℕ) → Each P cs → checked cs (taken a) ≡ refused n values → P n
+told-each P [] a n values h e = absurd (clash a n values e)
+told-each P (c ∷ cs) a n values h e = go (c .fails) e (told-each P cs a n values (h .1)) where
+  go : (f : Bool) → pick f (refused (c .number) (c .values)) (checked cs (taken a)) ≡ refused n values → (checked cs (taken a) ≡ refused n values → P n) → P n
+  go true e more = let z : c .number ≡ n = ap numberIn e in subst P z (h .0)
   go false e more = more e
