@@ -1,0 +1,5 @@
+-- The definitions of an interrogation.
+pub mod Table
+pub mod Interrogation
+pub mod Lengths
+pub mod Sound

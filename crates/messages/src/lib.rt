@@ -1,0 +1,158 @@
+// Decoding alone: from unarmored bytes to one of the five message types (messages/mod.rs, `parse`).
+use interrogation::Interrogation;
+use parsers::Taken;
+use position_report::Position;
+use position_report::PositionReport;
+use refusal::Refusal;
+use static_data_report::Reported;
+use static_data_report::StaticDataReport;
+use static_data_report::Texts;
+ghost use mathlib.Core.Path.{_≡_};
+ghost use Rattle.position_report.specs.Table.{positionTable};
+ghost use Rattle.position_report.specs.Report.{positionOf};
+ghost use Rattle.static_data_report.specs.StaticData.{staticDataOf};
+ghost use Rattle.interrogation.specs.Interrogation.{interrogatedOf};
+ghost use Rattle.messages.specs.Messages.{noMessage, positionIn, staticIn, askedIn, endsPosition, endsStatic, endsAsked, answered, decodedOf};
+ghost use Rattle.messages.specs.Parts.{refusedBy, endingOr, readingBy};
+
+// What a message tells. A static data report's texts and an interrogation's lists stand beside this enum, in `Message`.
+pub enum AisMessage {
+    Nothing,
+    PositionReport(PositionReport),
+    StaticDataReport(StaticDataReport),
+    Interrogation,
+}
+
+// A message of any type; what it has not is zero, empty and absent.
+pub struct Message {
+    pub content: AisMessage,
+    pub texts: Texts,
+    pub interrogation: Interrogation,
+}
+
+pub enum Outcome {
+    Taken,
+    Refused(Refusal),
+}
+
+// The outcome, and the message; a refused one tells nothing.
+pub struct Decoded {
+    pub outcome: Outcome,
+    pub message: Message,
+}
+
+// The message that tells nothing.
+pub fn nothing() -> Message
+    ensures { λ r. ⌜ r ≡ noMessage ⌝ }
+{
+    let texts = static_data_report::no_texts();
+    let interrogation = interrogation::no_interrogation();
+    Message {
+        content: AisMessage::Nothing,
+        texts: texts,
+        interrogation: interrogation,
+    }
+}
+
+// A refusal.
+fn refused(refusal: Refusal) -> Decoded
+    ensures { λ r. ⌜ answered r ≡ refusedBy refusal ⌝ }
+{
+    let message = nothing();
+    Decoded {
+        outcome: Outcome::Refused(refusal),
+        message: message,
+    }
+}
+
+// Types 1 to 3.
+fn parse_position(bytes: &[u8]) -> Decoded
+    ensures { λ r. ⌜ answered r ≡ endingOr (endsPosition (positionOf positionTable (now (bytes .entry)))) (positionIn (positionOf positionTable (now (bytes .entry)))) ⌝ }
+{
+    match position_report::parse(bytes) {
+        Position::Short => refused(Refusal::Short),
+        Position::Report(report) => {
+            let texts = static_data_report::no_texts();
+            let interrogation = interrogation::no_interrogation();
+            Decoded {
+                outcome: Outcome::Taken,
+                message: Message {
+                    content: AisMessage::PositionReport(report),
+                    texts: texts,
+                    interrogation: interrogation,
+                },
+            }
+        }
+    }
+}
+
+// Type 24.
+fn parse_static(bytes: &[u8]) -> Decoded
+    ensures { λ r. ⌜ answered r ≡ endingOr (endsStatic (staticDataOf (now (bytes .entry)) .report)) (staticIn (staticDataOf (now (bytes .entry)) .report) (staticDataOf (now (bytes .entry)) .texts)) ⌝ }
+{
+    let found = static_data_report::parse(bytes);
+    let texts = found.texts;
+    let reported = found.report;
+    match reported {
+        Reported::Short => refused(Refusal::Short),
+        Reported::Report(report) => {
+            let interrogation = interrogation::no_interrogation();
+            Decoded {
+                outcome: Outcome::Taken,
+                message: Message {
+                    content: AisMessage::StaticDataReport(report),
+                    texts: texts,
+                    interrogation: interrogation,
+                },
+            }
+        }
+    }
+}
+
+// Type 15.
+fn parse_interrogation(bytes: &[u8]) -> Decoded
+    ensures { λ r. ⌜ answered r ≡ endingOr (endsAsked (interrogatedOf (now (bytes .entry)) .outcome)) (askedIn (interrogatedOf (now (bytes .entry)) .outcome) (interrogatedOf (now (bytes .entry)) .interrogation)) ⌝ }
+{
+    let found = interrogation::parse(bytes);
+    let interrogation = found.interrogation;
+    let outcome = found.outcome;
+    match outcome {
+        interrogation::Outcome::Short => refused(Refusal::Short),
+        interrogation::Outcome::Taken => {
+            let texts = static_data_report::no_texts();
+            Decoded {
+                outcome: Outcome::Taken,
+                message: Message {
+                    content: AisMessage::Interrogation,
+                    texts: texts,
+                    interrogation: interrogation,
+                },
+            }
+        }
+    }
+}
+
+// By the type.
+fn parse_type(bytes: &[u8], kind: u8) -> Decoded
+    ensures { λ r. ⌜ answered r ≡ readingBy kind (now (bytes .entry)) ⌝ }
+{
+    match kind {
+        1..=3 => parse_position(bytes),
+        4..=14 => refused(Refusal::OtherType { kind: kind }),
+        15 => parse_interrogation(bytes),
+        16..=21 => refused(Refusal::OtherType { kind: kind }),
+        24 => parse_static(bytes),
+        27 => refused(Refusal::OtherType { kind: kind }),
+        _ => refused(Refusal::UnknownType { kind: kind }),
+    }
+}
+
+// Decodes unarmored bytes, of any length: 9 if there are none, then 10 or 11 with the type, then 9.
+pub fn parse(bytes: &[u8]) -> Decoded
+    ensures { λ r. ⌜ answered r ≡ decodedOf (now (bytes .entry)) ⌝ }
+{
+    let Taken::Bits(kind) = parsers::message_type(bytes) else {
+        return refused(Refusal::Short);
+    };
+    parse_type(bytes, kind as u8)
+}
