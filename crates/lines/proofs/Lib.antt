@@ -1,0 +1,5 @@
+pub mod Keeping
+pub mod Scan
+pub mod Ends
+pub mod Ways
+pub mod Callers

@@ -1,0 +1,69 @@
+-- `protocol::answer` meets its contract. Assumes nothing.
+use mathlib.Core.Path.{sym, _∙_}
+use Rattle.protocol.specs.Said.{saidOf}
+use borrow.Author.Needs.{needs}
+use Rattle.protocol.proofs.answer.Statement.{statement}
+use Rattle.protocol.proofs.answer.Tie as tie
+
+slice-aggregate-named : tie.Need-slice-aggregate-named
+slice-aggregate-named c = search needs
+
+named-requires : tie.Need-named-requires
+named-requires c κs = search needs
+
+say-fresh-requires : tie.Need-say-fresh-requires
+say-fresh-requires c κs = search needs
+
+same-length : tie.Need-same-length
+same-length c = search needs
+
+returns : tie.Need-returns
+unfolding saidOf
+returns c =
+    rw (sym (c .before .before .before .before .before .named .ensures) ∙ c .before .before .before .before .if1 .taken) (c .before .before .say-fresh .ensures)
+
+slice-aggregate-named-2 : tie.Need-slice-aggregate-named-2
+slice-aggregate-named-2 c = search needs
+
+named-requires-2 : tie.Need-named-requires-2
+named-requires-2 c κs = search needs
+
+say-unarmor-requires : tie.Need-say-unarmor-requires
+say-unarmor-requires c κs = search needs
+
+same-length-2 : tie.Need-same-length-2
+same-length-2 c = search needs
+
+returns-2 : tie.Need-returns-2
+unfolding saidOf
+returns-2 c =
+    rw (sym (c .before .before .before .before .before .before .before .before .named .ensures) ∙ c .before .before .before .before .before .before .before .if1 .left, sym (c .before .before .before .before .before .named2 .ensures) ∙ c .before .before .before .before .if2 .taken) (c .before .before .say-unarmor .ensures)
+
+say-bad-requires : tie.Need-say-bad-requires
+say-bad-requires c κs = search needs
+
+same-length-3 : tie.Need-same-length-3
+same-length-3 c = search needs
+
+returns-3 : tie.Need-returns-3
+unfolding saidOf
+returns-3 c =
+    rw (sym (c .before .before .before .before .before .before .before .before .named .ensures) ∙ c .before .before .before .before .before .before .before .if1 .left, sym (c .before .before .before .before .before .named2 .ensures) ∙ c .before .before .before .before .if2 .left) (c .before .before .say-bad .ensures)
+
+pub answer-spec : {M : Type 1} → statement M
+answer-spec =
+    tie.close
+    (tie.spec
+    slice-aggregate-named
+    named-requires
+    say-fresh-requires
+    same-length
+    returns
+    slice-aggregate-named-2
+    named-requires-2
+    say-unarmor-requires
+    same-length-2
+    returns-2
+    say-bad-requires
+    same-length-3
+    returns-3)

@@ -1,0 +1,4 @@
+pub mod Laws
+pub mod Strings
+pub mod Decimals
+pub mod Signed
