@@ -13,7 +13,7 @@ use lib.Seq.{drop-cons, take-nil}
 use lib.Bits.{bitXor}
 use Rattle.refusal.specs.Words.{pick}
 use Rattle.scan.specs.Rule.{read, bad, atMost}
-use Rattle.scan.specs.Scan.{before, among, digitOf, digits, value, written, number, xorOf, star}
+use Rattle.scan.specs.Scan.{before, among, digitOf, digits, value, oneOrMore, number, xorOf, star}
 use Rattle.scan.specs.declared.Digit.{Digit}
 
 -- what is left of a line, with the code's i + 1
@@ -51,14 +51,14 @@ sum-next v s i h e = rw (before-next star s i h e, drop-next s i h)
 -- ---- a byte in a range
 
 module _ (low high b : ℕ) where
-  pub within : low ≤ b → b ≤ high → among low high b ≡ true
-  within h k = simp (le-leb low b h, le-leb b high k)
+  pub in-range : low ≤ b → b ≤ high → among low high b ≡ true
+  in-range h k = simp (le-leb low b h, le-leb b high k)
 
-  pub under : b < low → among low high b ≡ false
-  under h = simp (lt-leb low b h)
+  pub below-range : b < low → among low high b ≡ false
+  below-range h = simp (lt-leb low b h)
 
-  pub over : high < b → among low high b ≡ false
-  over h = go (leb low b)
+  pub above-range : high < b → among low high b ≡ false
+  above-range h = go (leb low b)
     where
       go : (t : Bool) → (t && leb b high) ≡ false
       go true = lt-leb b high h
@@ -103,7 +103,7 @@ value-grows radix v (d ∷ ds) h =
 
 module _ (radix most : ℕ) (s : List ℕ) (at : ℕ) where
   pub too-large : 255 < value radix 0 (run radix s at most) → atMost 255 (number radix most) s at ≡ bad at
-  unfolding number written
+  unfolding number oneOrMore
   too-large h = go (ltb 0 (length (run radix s at most)))
     where
       go : (t : Bool) → atMost 255 (λ z i. pick t (read (value radix 0 (run radix s at most)) (at + length (run radix s at most))) (bad at)) s at ≡ bad at
@@ -111,9 +111,9 @@ module _ (radix most : ℕ) (s : List ℕ) (at : ℕ) where
       go false = refl
 
   pub no-digit : length (run radix s at most) ≡ 0 → atMost 255 (number radix most) s at ≡ bad at
-  unfolding number written
+  unfolding number oneOrMore
   no-digit e = rw e
 
   pub some-digit : (v next : ℕ) → at < next → v ≤ 255 → value radix 0 (run radix s at most) ≡ v → at + length (run radix s at most) ≡ next → atMost 255 (number radix most) s at ≡ read v next
-  unfolding number written
+  unfolding number oneOrMore
   some-digit v next h k e f = rw (lt-ltb 0 (length (run radix s at most)) (omega arith), e, f, le-leb v 255 k)

@@ -13,7 +13,7 @@ use lib.Seq.{take-append-seam}
 use lib.Bits.{bitXor, xor-lt}
 use Rattle.scan.specs.Rule.{read}
 use Rattle.scan.specs.Scan.{comma, star, backslash, exclamation, hexOf, digitOf, decimal, xorOf, sumToStar, digit, capital, All}
-use Rattle.scan.proofs.Placed.{after-one, after-all, inside, byte-is, byte-at, other-at, upTo-at, sum-at, decimal-at, no-decimal-at, hex-at}
+use Rattle.scan.proofs.Placed.{all-append, all-map, after-one, after-all, inside, byte-is, byte-at, other-at, upTo-at, sum-at, decimal-at, no-decimal-at, hex-at}
 use Rattle.sentence.specs.Line.{tagBlock, startMark, talkerOf, reportOf, talkerId, reportType, address, orNothing, heading, channel, payload, body, fields, line, payloadOf, parsedOf}
 use Rattle.sentence.specs.Written.{Parts, talkerText, reportText, idText, channelText, bodyText, sumOf, lineText, OneDigit, AOrB, Writable, startOf, sentenceOf}
 use Rattle.sentence.specs.declared.TalkerId.{TalkerId}
@@ -21,16 +21,6 @@ use Rattle.sentence.specs.declared.AisReportType.{AisReportType}
 use Rattle.sentence.specs.declared.Number.{Number}
 use Rattle.sentence.specs.declared.Channel.{Channel}
 use Rattle.sentence.specs.declared.Parsed.{Parsed}
-
--- ---- what holds of each, over lists
-
-all-append : (P : ℕ → Type 0) (xs ys : List ℕ) → All P xs → All P ys → All P (xs ++ ys)
-all-append P [] ys h k = k
-all-append P (x ∷ xs) ys h k = (h .0, all-append P xs ys (h .1) k)
-
-all-map : (P Q : ℕ → Type 0) → ((b : ℕ) → P b → Q b) → (xs : List ℕ) → All P xs → All Q xs
-all-map P Q f [] h = tt
-all-map P Q f (x ∷ xs) h = (f x (h .0), all-map P Q f xs (h .1))
 
 -- ---- the rules, one after the other, each where its text stands
 
@@ -241,7 +231,7 @@ module _ (p : Parts) (w : Writable p) where
 
   sum-below : sumOf p < 256
   unfolding sumOf
-  sum-below = xor-below 0 (bodyText p) (omega arith) (all-map Plain (λ (b : ℕ). b < 256) (λ b h. h .1) (bodyText p) body-plain)
+  sum-below = xor-below _ (bodyText p) (omega arith) (all-map Plain (λ (b : ℕ). b < 256) (λ b h. h .1) (bodyText p) body-plain)
 
   -- ---- the text from the total on, from the channel on
 

@@ -25,10 +25,11 @@ tagBlock = skip do
 unfoldable pub startMark : Rule Unit
 startMark = byte exclamation or byte dollar
 
--- the ten talkers, by their two letters; "unknown ones kept as Unknown"
+-- two letters are these
 abbrev pub is : ℕ → ℕ → ℕ → ℕ → Bool
 is a b x y = eqb a x && eqb b y
 
+-- the ten talkers that the crate knows, by their two letters; "unknown ones kept as Unknown"
 unfoldable pub talkerOf : ℕ → ℕ → TalkerId
 talkerOf a b =
     pick (is a b 65 66) TalkerId.AB
@@ -42,7 +43,7 @@ talkerOf a b =
     (pick (is a b 66 83) TalkerId.BS
     (pick (is a b 83 65) TalkerId.SA TalkerId.Unknown)))))))))
 
--- VDM and VDO, by their three letters
+-- VDM and VDO, by their three letters; "unknown ones kept as Unknown"
 unfoldable pub reportOf : ℕ → ℕ → ℕ → AisReportType
 reportOf a b c =
     pick (is a b 86 68 && eqb c 77) AisReportType.VDM
@@ -99,6 +100,7 @@ payload = do
   pick (ltb start end) (gives (start, end)) (fails start)
 
 -- "channel up to a comma, its first byte kept or none; payload up to a comma, at least 1 byte; fill, at most 5; `*`; checksum."
+-- "`message_type` of the sentence is the first byte of the line's own payload divided by 4, rounded down"
 unfoldable pub body : Rule Load
 body = do
   kept ← channel
@@ -109,7 +111,7 @@ body = do
   sum ← hex
   gives (record { channel = kept; start = start; end = end; kind = lead / 4; fill = bits; checksum = sum })
 
--- what follows the start mark, with the checksum found
+-- what follows the start mark (`parse_ais_sentence`), with the checksum found
 unfoldable pub fields : ℕ → Rule AisSentence
 fields found = do
   (talker, report) ← address
@@ -130,7 +132,7 @@ fields found = do
     «checksum_found» = found;
   })
 
--- a whole line
+-- a whole line (`parse_nmea_sentence`)
 unfoldable pub line : Rule AisSentence
 line = do
   tagBlock
