@@ -1,0 +1,3 @@
+pub mod Sentence
+pub mod Call
+pub mod Parts

@@ -1,0 +1,61 @@
+-- What the parts of the reader give back: a refused call, a complete message, and the record's step on a sentence whose checksum is right.
+use Prim.Native.Nat.{ℕ, _≤_}
+use mathlib.Core.Path.{_≡_}
+use mathlib.Core.Bool.{Bool}
+use mathlib.Core.List.{List, []}
+use lib.ListN.{length, take}
+use Rattle.refusal.specs.Words.{pick, taken, numberIn, checked}
+use Rattle.refusal.specs.declared.Refusal.{Refusal}
+use Rattle.armour.specs.Armour.{size, unarmored}
+use Rattle.armour.specs.Unarmor.{answered}
+use Rattle.messages.specs.Messages.{noMessage, messageBy, typeOf, decodeChecks}
+use Rattle.messages.specs.declared.Message.{Message}
+use Rattle.sentence.specs.declared.AisSentence.{AisSentence}
+use Rattle.reassembly.specs.declared.Record.{Record}
+use Rattle.ais.specs.Sentence.{heardOf, noSentence}
+use Rattle.ais.specs.Call.{Called, complete, kindOf, progressOf, joinedOf, handedOf, decodes, messageChecks, recordChecks, leftBy, callWith}
+use Rattle.ais.specs.declared.Opened.{Opened}
+use Rattle.ais.specs.declared.Outcome.{Outcome}
+use Rattle.ais.specs.declared.Stepped.{Stepped}
+
+-- a refusal: the answer is one value
+abbrev pub refusedAs : Record → Refusal → Stepped
+refusedAs after r = record { state = after; answer = record { outcome = Outcome.Refused r; sentence = noSentence; message = noMessage } }
+
+-- a line that is taken
+abbrev pub takenAs : Record → Outcome → AisSentence → List ℕ → Message → Stepped
+takenAs after o s handed message = record { state = after; answer = record { outcome = o; sentence = heardOf s handed; message = message } }
+
+-- what a payload that is handed out has
+pub record Handed (fill : ℕ) (handed : List ℕ) : Type 0 where
+  pub little : fill ≤ 5
+  pub some : 1 ≤ length handed
+  pub few : length handed ≤ 384
+
+-- buffers that are large enough
+pub record Large (payload bits : List ℕ) : Type 0 where
+  pub room : 384 ≤ length payload
+  pub bitRoom : 288 ≤ length bits
+
+-- n unarmored bytes d that are decoded
+pub record Decodes (d : List ℕ) (n : ℕ) (o : Opened) : Type 0 where
+  pub told : answered (o .outcome) ≡ checked (decodeChecks d) (taken n)
+  pub message : o .message ≡ messageBy (typeOf d) d
+
+-- a message that is decoded: what is told of its bits, the message, and the bits in the scratch bytes
+pub record Opens (handed : List ℕ) (fill : ℕ) (o : Opened) (scratch : List ℕ) : Type 0 where
+  pub told : answered (o .outcome) ≡ checked (messageChecks handed fill) (taken (size (length handed)))
+  pub message : (n : ℕ) → answered (o .outcome) ≡ taken n → o .message ≡ messageBy (typeOf (unarmored handed fill)) (unarmored handed fill)
+  pub stands : (n : ℕ) → answered (o .outcome) ≡ taken n → take n scratch ≡ unarmored handed fill
+  pub whole : length scratch ≡ 288
+
+-- a complete message
+abbrev pub finishedOf : Record → AisSentence → List ℕ → Bool → List ℕ → List ℕ → Called
+finishedOf after s handed decode payload bits =
+    callWith (checked (pick decode (messageChecks handed (s .«fill_bit_count»)) []) (taken complete)) s handed decode after payload bits
+
+-- a sentence and its own payload
+unfoldable pub receivedOf : Record → AisSentence → List ℕ → Bool → List ℕ → List ℕ → Called
+receivedOf r s own decode payload bits =
+    let t = checked (recordChecks r s own decode) (taken (progressOf (kindOf s))) in
+    callWith t s (handedOf r s own) (decodes decode s) (leftBy r (kindOf s) (joinedOf r s own) (numberIn t)) payload bits

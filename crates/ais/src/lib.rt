@@ -1,0 +1,312 @@
+// Reading a line (sentence.rs, `AisParser::parse`): all the checks in their order. By value, over a lent record, and for programs.
+use armour::Unarmored;
+use messages::Message;
+use reassembly::Fragment;
+use reassembly::Part;
+use reassembly::Record;
+use refusal::Refusal;
+use sentence::AisReportType;
+use sentence::AisSentence;
+use sentence::Channel;
+use sentence::Number;
+use sentence::Parsed;
+use sentence::TalkerId;
+ghost use mathlib.Core.Path.{_≡_};
+ghost use Prim.Native.Nat.{_≤_};
+ghost use lib.ListN.{length, take};
+ghost use Rattle.refusal.specs.Words.{over};
+ghost use Rattle.ais.specs.Sentence.{trueType, heardOf, noSentence};
+ghost use Rattle.ais.specs.Call.{calledIn, calledOf};
+ghost use Rattle.ais.specs.Parts.{Handed, Large, Decodes, Opens, refusedAs, takenAs, finishedOf, receivedOf};
+
+// The type that the payload's first byte tells, absent where that byte is no armour.
+pub enum TrueType {
+    Absent,
+    Of(u8),
+}
+
+// A line that was taken. `message_type` is the crate's; the true type, the length and the sent bits are those of the payload handed out.
+pub struct Sentence {
+    pub talker_id: TalkerId,
+    pub report_type: AisReportType,
+    pub num_fragments: u8,
+    pub fragment_number: u8,
+    pub message_id: Number,
+    pub channel: Channel,
+    pub fill_bit_count: u8,
+    pub message_type: u8,
+    pub true_type: TrueType,
+    pub payload_len: usize,
+    pub sent_bits: usize,
+}
+
+pub enum Outcome {
+    Complete,
+    Unfinished,
+    Refused(Refusal),
+}
+
+// What a line tells. Where it is refused, the sentence and the message tell nothing.
+pub struct Answer {
+    pub outcome: Outcome,
+    pub sentence: Sentence,
+    pub message: Message,
+}
+
+// The record after a line, and the answer.
+pub struct Stepped {
+    pub state: Record,
+    pub answer: Answer,
+}
+
+// The count of a message's unarmored bytes or why there are none, and the message.
+pub struct Opened {
+    pub outcome: Unarmored,
+    pub message: Message,
+}
+
+// The bytes of s put first in `out`; all further bytes stay.
+fn put_first(out: &mut [u8], s: &[u8])
+    requires { ⌜ length (now s) ≤ length (now out) ⌝ }
+    ensures { λ _. ⌜ now (out .exit) ≡ over (now (s .entry)) (now (out .entry)) ⌝ }
+{
+    let mut i: usize = 0;
+    while i < s.len() {
+        out[i] = s[i];
+        i += 1;
+    }
+}
+
+// The true type of a payload.
+fn true_type(handed: &[u8]) -> TrueType
+    requires { ⌜ 1 ≤ length (now handed) ⌝ }
+    ensures { λ r. ⌜ r ≡ trueType (now (handed .entry)) ⌝ }
+{
+    let v = armour::six(handed[0]);
+    if v < 64 {
+        TrueType::Of(v)
+    } else {
+        TrueType::Absent
+    }
+}
+
+// What is told of a line that is taken.
+fn heard(s: AisSentence, handed: &[u8]) -> Sentence
+    requires { ⌜ Handed (s .«fill_bit_count») (now handed) ⌝ }
+    ensures { λ r. ⌜ r ≡ heardOf s (now (handed .entry)) ⌝ }
+{
+    let talker_id = s.talker_id;
+    let report_type = s.report_type;
+    let message_id = s.message_id;
+    let channel = s.channel;
+    let true_type = true_type(handed);
+    Sentence {
+        talker_id: talker_id,
+        report_type: report_type,
+        num_fragments: s.num_fragments,
+        fragment_number: s.fragment_number,
+        message_id: message_id,
+        channel: channel,
+        fill_bit_count: s.fill_bit_count,
+        message_type: s.message_type,
+        true_type: true_type,
+        payload_len: handed.len(),
+        sent_bits: handed.len() * 6 - s.fill_bit_count as usize,
+    }
+}
+
+// A sentence that tells nothing.
+fn no_sentence() -> Sentence
+    ensures { λ r. ⌜ r ≡ noSentence ⌝ }
+{
+    Sentence {
+        talker_id: TalkerId::Unknown,
+        report_type: AisReportType::Unknown,
+        num_fragments: 0,
+        fragment_number: 0,
+        message_id: Number::Absent,
+        channel: Channel::Absent,
+        fill_bit_count: 0,
+        message_type: 0,
+        true_type: TrueType::Absent,
+        payload_len: 0,
+        sent_bits: 0,
+    }
+}
+
+// A refusal, and the record that it leaves.
+fn refused(state: Record, refusal: Refusal) -> Stepped
+    ensures { λ r. ⌜ r ≡ refusedAs state refusal ⌝ }
+{
+    let sentence = no_sentence();
+    let message = messages::nothing();
+    Stepped {
+        state: state,
+        answer: Answer {
+            outcome: Outcome::Refused(refusal),
+            sentence: sentence,
+            message: message,
+        },
+    }
+}
+
+// Decodes the first n of the scratch bytes.
+fn decoded(scratch: &[u8], n: usize) -> Opened
+    requires { ⌜ n ≤ length (now scratch) ⌝ }
+    ensures { λ r. ⌜ Decodes (take n (now (scratch .entry))) n r ⌝ }
+{
+    let found = messages::parse(&scratch[..n]);
+    let message = found.message;
+    let outcome = found.outcome;
+    match outcome {
+        messages::Outcome::Taken => Opened {
+            outcome: Unarmored::Bytes(n),
+            message: message,
+        },
+        messages::Outcome::Refused(refusal) => Opened {
+            outcome: Unarmored::Refused(refusal),
+            message: message,
+        },
+    }
+}
+
+// Unarmors a complete message into the scratch bytes and decodes it: refusal 8, then 9, 10 or 11.
+fn open(handed: &[u8], fill: u8, scratch: &mut [u8]) -> Opened
+    requires { ⌜ Handed fill (now handed) × (length (now scratch) ≡ 288) ⌝ }
+    ensures { λ r. ⌜ Opens (now (handed .entry)) fill r (now (scratch .exit)) ⌝ }
+{
+    match armour::unarmor(handed, fill as usize, scratch) {
+        Unarmored::Refused(refusal) => Opened {
+            outcome: Unarmored::Refused(refusal),
+            message: messages::nothing(),
+        },
+        Unarmored::Bytes(n) => decoded(scratch, n),
+    }
+}
+
+// A line that is taken: the payload handed out stands first in the payload buffer.
+fn taken(
+    state: Record,
+    outcome: Outcome,
+    s: AisSentence,
+    handed: &[u8],
+    message: Message,
+    payload: &mut [u8],
+) -> Stepped
+    requires { ⌜ Handed (s .«fill_bit_count») (now handed) × (384 ≤ length (now payload)) ⌝ }
+    ensures { λ r. ⌜ r ≡ takenAs state outcome s (now (handed .entry)) message ⌝ }
+    ensures { λ r. ⌜ now (payload .exit) ≡ over (now (handed .entry)) (now (payload .entry)) ⌝ }
+{
+    put_first(payload, handed);
+    let sentence = heard(s, handed);
+    Stepped {
+        state: state,
+        answer: Answer {
+            outcome: outcome,
+            sentence: sentence,
+            message: message,
+        },
+    }
+}
+
+// A complete message, and the record that it leaves: decoded where that is asked.
+fn finish(
+    state: Record,
+    s: AisSentence,
+    handed: &[u8],
+    decode: bool,
+    payload: &mut [u8],
+    bits: &mut [u8],
+) -> Stepped
+    requires { ⌜ Handed (s .«fill_bit_count») (now handed) × Large (now payload) (now bits) ⌝ }
+    ensures { λ r. ⌜ calledIn r (now (payload .exit)) (now (bits .exit)) ≡ finishedOf state s (now (handed .entry)) decode (now (payload .entry)) (now (bits .entry)) ⌝ }
+{
+    if !decode {
+        let message = messages::nothing();
+        return taken(state, Outcome::Complete, s, handed, message, payload);
+    }
+    let mut scratch = [0u8; 288];
+    let opened = open(handed, s.fill_bit_count, &mut scratch);
+    let message = opened.message;
+    let outcome = opened.outcome;
+    match outcome {
+        Unarmored::Refused(refusal) => refused(state, refusal),
+        Unarmored::Bytes(n) => {
+            put_first(bits, &scratch[..n]);
+            taken(state, Outcome::Complete, s, handed, message, payload)
+        }
+    }
+}
+
+// The record's step on a sentence whose checksum is right, with its own payload.
+fn receive(
+    state: Record,
+    s: AisSentence,
+    own: &[u8],
+    decode: bool,
+    payload: &mut [u8],
+    bits: &mut [u8],
+) -> Stepped
+    requires { ⌜ (s .«fill_bit_count» ≤ 5) × ((1 ≤ length (now own)) × Large (now payload) (now bits)) ⌝ }
+    ensures { λ r. ⌜ calledIn r (now (payload .exit)) (now (bits .exit)) ≡ receivedOf state s (now (own .entry)) decode (now (payload .entry)) (now (bits .entry)) ⌝ }
+{
+    let id = s.message_id;
+    let fragment = Fragment {
+        total: s.num_fragments,
+        number: s.fragment_number,
+        id: id,
+    };
+    let joined = reassembly::join(state, fragment, own);
+    let after = joined.state;
+    let outcome = joined.outcome;
+    match outcome {
+        reassembly::Outcome::Refused(refusal) => refused(after, refusal),
+        reassembly::Outcome::Taken(part) => match part {
+            Part::Unfinished => {
+                let message = messages::nothing();
+                taken(after, Outcome::Unfinished, s, own, message, payload)
+            }
+            Part::Alone => finish(after, s, own, decode, payload, bits),
+            Part::Last => {
+                let whole = after.bytes;
+                let len = after.len;
+                let emptied = reassembly::emptied(after);
+                finish(emptied, s, &whole[..len], decode, payload, bits)
+            }
+        },
+    }
+}
+
+// Reads one line: 12, 1, 2, 3, 4, 5, 6, 8, and then 9, 10 or 11. The record goes in and comes back by value.
+pub fn step(
+    state: Record,
+    line: &[u8],
+    decode: bool,
+    payload: &mut [u8],
+    bits: &mut [u8],
+) -> Stepped
+    ensures { λ r. ⌜ calledIn r (now (payload .exit)) (now (bits .exit)) ≡ calledOf state (now (line .entry)) decode (now (payload .entry)) (now (bits .entry)) ⌝ }
+{
+    if payload.len() < 384 {
+        return refused(state, Refusal::Room);
+    }
+    if bits.len() < 288 {
+        return refused(state, Refusal::Room);
+    }
+    if line.len() > 1024 {
+        return refused(state, Refusal::LineTooLong);
+    }
+    match sentence::parse_nmea_sentence(line) {
+        Parsed::Bad(_) => refused(state, Refusal::Line),
+        Parsed::Sentence(s) => {
+            let expected = s.checksum;
+            let found = s.checksum_found;
+            if expected != found {
+                return refused(state, Refusal::Checksum { expected, found });
+            }
+            let start = s.payload_start;
+            let end = s.payload_end;
+            receive(state, s, &line[start..end], decode, payload, bits)
+        }
+    }
+}
