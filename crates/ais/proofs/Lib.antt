@@ -1,3 +1,4 @@
 pub mod Laws
 pub mod Received
 pub mod Called
+pub mod Local

@@ -59,6 +59,19 @@ fn say_unarmor(line: &[u8], out: &mut [u8], at: usize) -> usize
     show_unarmor(&payload[..k], fill as usize, &mut lent[..m], out, at)
 }
 
+// `decode BYTES`: decoding alone.
+pub fn say_decode(line: &[u8], out: &mut [u8], at: usize) -> usize {
+    if words::count(line) != 2 {
+        return say_bad(out, at);
+    }
+    let mut payload = io::buffer();
+    let Filled::Bytes(n) = words::bytes(line, 1, &mut payload) else {
+        return say_bad(out, at);
+    };
+    let k = text_out::up_to(n, &payload);
+    shown_message::put_decoded(out, at, &payload[..k])
+}
+
 // The numbers of `unarmor FILL ROOM DATA`.
 fn ask_unarmor(line: &[u8]) -> Ask
     ensures { λ r. ⌜ r ≡ unarmorAsked (now (line .entry)) ⌝ }

@@ -8,24 +8,24 @@ ghost use Prim.Native.Nat.{_<_};
 ghost use lib.ListN.{length};
 ghost use Rattle.lines.specs.Collect.{nextOf};
 
-// A command line has at most so many bytes.
+// A command line has at most so many bytes. A CR before the LF is one of them: no command has one.
 const MOST: u16 = 8192;
 
 // What is kept from block to block: the collector, and how much of the output buffer is in use.
-struct Session {
+struct Kept {
     lines: Collector,
     used: usize,
 }
 
-// The session after an event, and the place in the block to go on from.
+// The kept after an event, and the place in the block to go on from.
 struct Turn {
-    session: Session,
+    kept: Kept,
     next: usize,
 }
 
-// The session after a block, and whether there may be another.
+// The kept after a block, and whether there may be another.
 struct Read {
-    session: Session,
+    kept: Kept,
     more: bool,
 }
 
@@ -36,22 +36,30 @@ fn write_out(out: &[u8], used: usize) {
 }
 
 // Empties the output buffer once three quarters of its 65,536 bytes are in use, so that no answer is cut.
-fn emptied(s: Session, out: &[u8]) -> Session {
+fn emptied(s: Kept, out: &[u8]) -> Kept {
     if s.used < 49152 {
         return s;
     }
     write_out(out, s.used);
     let lines = s.lines;
-    Session {
+    Kept {
         lines: lines,
         used: 0,
     }
 }
 
+// The answer to a command.
+fn answer_command(line: &[u8], out: &mut [u8], used: usize) -> usize {
+    if words::named(line, 0, b"decode") {
+        return protocol::say_decode(line, out, used);
+    }
+    protocol::answer(line, out, used)
+}
+
 // A line: its answer, and an LF. Answers the place behind them.
 fn answer_line(line: &[u8], n: usize, out: &mut [u8], used: usize) -> usize {
     let k = text_out::up_to(n, line);
-    let at = protocol::answer(&line[..k], out, used);
+    let at = answer_command(&line[..k], out, used);
     text_out::put_byte(out, at, b'\n')
 }
 
@@ -74,28 +82,28 @@ fn answer_event(
 {
     match event {
         Event::Line(n, next) => Turn {
-            session: Session {
+            kept: Kept {
                 lines: lines,
                 used: answer_line(line, n, out, used),
             },
             next: next,
         },
         Event::TooLong(next) => Turn {
-            session: Session {
+            kept: Kept {
                 lines: lines,
                 used: answer_long(out, used),
             },
             next: next,
         },
         Event::Held => Turn {
-            session: Session {
+            kept: Kept {
                 lines: lines,
                 used: used,
             },
             next: all,
         },
         Event::Room => Turn {
-            session: Session {
+            kept: Kept {
                 lines: lines,
                 used: used,
             },
@@ -105,54 +113,54 @@ fn answer_event(
 }
 
 // The next event of a block.
-fn take_event(s: Session, block: &[u8], at: usize, line: &mut [u8], out: &mut [u8]) -> Turn
+fn take_event(s: Kept, block: &[u8], at: usize, line: &mut [u8], out: &mut [u8]) -> Turn
     requires { ⌜ at < length (now block) ⌝ }
     ensures { λ r. ⌜ at < r .next ⌝ }
 {
     let before = s.lines;
-    let c = lines::collect_to(before, MOST, true, block, at, line);
+    let c = lines::collect_to(before, MOST, false, block, at, line);
     let after = c.state;
     let event = c.event;
     answer_event(event, after, s.used, line, out, block.len())
 }
 
 // All of a block.
-fn take_block(s: Session, block: &[u8], line: &mut [u8], out: &mut [u8]) -> Session {
+fn take_block(s: Kept, block: &[u8], line: &mut [u8], out: &mut [u8]) -> Kept {
     let mut now = s;
     let mut at = 0;
     while at < block.len() {
         let t = take_event(now, block, at, line, out);
-        let session = t.session;
-        now = emptied(session, out);
+        let kept = t.kept;
+        now = emptied(kept, out);
         at = t.next;
     }
     now
 }
 
 // Reads once, and answers the lines that ended.
-fn read_some(s: Session, line: &mut [u8], out: &mut [u8]) -> Read {
+fn read_some(s: Kept, line: &mut [u8], out: &mut [u8]) -> Read {
     let mut block = io::large_buffer();
     let got = libc::read(STDIN_FILENO, &mut block);
     if got <= 0 {
         return Read {
-            session: s,
+            kept: s,
             more: false,
         };
     }
     let n = io::count(got, &block);
     Read {
-        session: take_block(s, &block[..n], line, out),
+        kept: take_block(s, &block[..n], line, out),
         more: true,
     }
 }
 
 // Nothing says that the input ends, so the loop counts its turns down, from a number that no run uses up.
-fn read_all(s: Session, line: &mut [u8], out: &mut [u8]) -> Session {
+fn read_all(s: Kept, line: &mut [u8], out: &mut [u8]) -> Kept {
     let mut now = s;
     let mut turns = u64::MAX;
     while turns > 0 {
         let r = read_some(now, line, out);
-        now = r.session;
+        now = r.kept;
         if !r.more {
             return now;
         }
@@ -162,19 +170,19 @@ fn read_all(s: Session, line: &mut [u8], out: &mut [u8]) -> Session {
 }
 
 // Bytes that are left at the end of the input are a last line. Answers how much of the output buffer is then in use.
-fn answer_last(s: Session, line: &[u8], out: &mut [u8]) -> usize {
+fn answer_last(s: Kept, line: &[u8], out: &mut [u8]) -> usize {
     let held = s.lines;
     let empty = lines::new();
-    let event = lines::last(held, MOST, true, line);
+    let event = lines::last(held, MOST, false, line);
     let t = answer_event(event, empty, s.used, line, out, 0);
-    t.session.used
+    t.kept.used
 }
 
 fn main() {
     let mut out = io::large_buffer();
     let mut line = [0u8; 8192];
     let empty = lines::new();
-    let start = Session {
+    let start = Kept {
         lines: empty,
         used: 0,
     };

@@ -1,7 +1,7 @@
 -- `trace::take_event` goes on in the block. Assumes nothing.
 use Prim.Native.Nat.{ℕ, _<_}
 use mathlib.Core.Path.{sym, ap, _∙_, subst}
-use mathlib.Core.Bool.{true}
+use mathlib.Core.Bool.{false}
 use lib.ListN.{length}
 use Rattle.lines.specs.Collect.{Called, nextOf}
 use Rattle.lines.proofs.Callers.{collect-on}
@@ -27,7 +27,7 @@ returns c =
     let b = s .args .block .now in
     subst (λ (n : ℕ). s .args .at < n)
     (ap (λ (x : Called). nextOf (x .event) (length b)) (sym (c .before .before .before .before .before .before .before .before .collect-to .ensures)) ∙ sym (c .before .before .answer-event .ensures))
-    (collect-on 8192 true (s .args .s .lines .len) b (s .args .at) (s .args .line .now) (s .pre))
+    (collect-on 8192 false (s .args .s .lines .len) b (s .args .at) (s .args .line .now) (s .pre))
 
 pub take-event-spec : {M : Type 1} → statement M
 take-event-spec =

@@ -1,0 +1,79 @@
+-- `shown_message::put_message` ends. Assumes nothing.
+use mathlib.Core.Path.{subst}
+use Rattle.shown_message.specs.Message.{FiniteIn}
+use borrow.Author.Needs.{needs}
+use Rattle.shown_message.proofs.put_message.Statement.{statement}
+use Rattle.shown_message.proofs.put_message.Tie as tie
+
+enum-told : tie.Need-enum-told
+enum-told c = search needs
+
+slice-aggregate-put-bytes : tie.Need-slice-aggregate-put-bytes
+slice-aggregate-put-bytes c = search needs
+
+put-bytes-requires : tie.Need-put-bytes-requires
+put-bytes-requires c κs = search needs
+
+enum-known-content : tie.Need-enum-known-content
+enum-known-content c = search needs
+
+put-position-requires : tie.Need-put-position-requires
+put-position-requires c κs = subst FiniteIn (c .before .before .content .given .1) (c .before .before .before .before .before .pre)
+
+enum-known-content-2 : tie.Need-enum-known-content-2
+enum-known-content-2 c = search needs
+
+put-static-requires : tie.Need-put-static-requires
+put-static-requires c κs = search needs
+
+enum-told-2 : tie.Need-enum-told-2
+enum-told-2 c = search needs
+
+put-interrogation-requires : tie.Need-put-interrogation-requires
+put-interrogation-requires c κs = search needs
+
+same-length : tie.Need-same-length
+same-length c = search needs
+
+returns : tie.Need-returns
+returns c = search needs
+
+same-length-2 : tie.Need-same-length-2
+same-length-2 c = search needs
+
+returns-2 : tie.Need-returns-2
+returns-2 c = search needs
+
+same-length-3 : tie.Need-same-length-3
+same-length-3 c = search needs
+
+returns-3 : tie.Need-returns-3
+returns-3 c = search needs
+
+same-length-4 : tie.Need-same-length-4
+same-length-4 c = search needs
+
+returns-4 : tie.Need-returns-4
+returns-4 c = search needs
+
+pub put-message-spec : {M : Type 1} → statement M
+put-message-spec =
+    tie.close
+    (tie.spec
+    enum-told
+    slice-aggregate-put-bytes
+    put-bytes-requires
+    enum-known-content
+    put-position-requires
+    enum-known-content-2
+    put-static-requires
+    enum-told-2
+    put-interrogation-requires
+    same-length
+    returns
+    same-length-2
+    returns-2
+    same-length-3
+    returns-3
+    same-length-4
+    returns-4)
