@@ -28,7 +28,7 @@ use Rattle.ais.specs.declared.Outcome.{Outcome}
 use Rattle.ais.specs.declared.Stepped.{Stepped}
 
 -- the number told is 0 or one that a check bears: what holds of these holds of it
-number-each : {A : Type 0} (P : ℕ → Type 0) (cs : List Check) (a : A) → P 0 → Each P cs → P (numberIn (checked cs (taken a)))
+pub number-each : {A : Type 0} (P : ℕ → Type 0) (cs : List Check) (a : A) → P 0 → Each P cs → P (numberIn (checked cs (taken a)))
 number-each P [] a z h = z
 number-each P (c ∷ cs) a z h = go (c .fails) (number-each P cs a z (h .1)) where
   go : (f : Bool) → P (numberIn (checked cs (taken a))) → P (numberIn (pick f (refused (c .number) (c .values)) (checked cs (taken a))))
@@ -50,7 +50,7 @@ module _ (found : Record) (part : Part) (joined : Record) where
   abbrev Done : ℕ → Type 0
   Done n = leftBy found part joined n ≡ doneBy part joined
 
-  none-done : Done 0
+  pub none-done : Done 0
   unfolding within
   none-done = refl
 
@@ -102,10 +102,10 @@ module _ (r : Record) (f : Fragment) (own : List ℕ) (k : partOf f ≡ Part.Las
   several : Passed (severalChecks r f own)
   several = subst (λ (q : Part). Passed (checksBy q (onto q r f) f own)) k p
 
-  last-room : r .len + length own ≤ 384
+  pub last-room : r .len + length own ≤ 384
   last-room = ltb-false 384 (r .len + length own) (several .1 .1 .0)
 
-  last-after : (joinOf r f own) .after ≡ added r (f .number) own
+  pub last-after : (joinOf r f own) .after ≡ added r (f .number) own
   unfolding joinOf
   last-after = subst (λ (q : Part). (joinBy q r (onto q r f) f own) .after ≡ added r (f .number) own) (sym k) (rw (passing (severalChecks r f own) (taken Part.Last) several))
 
