@@ -17,13 +17,13 @@ struct Kept {
     used: usize,
 }
 
-// The kept after an event, and the place in the block to go on from.
+// What is kept after an event, and the place in the block to go on from.
 struct Turn {
     kept: Kept,
     next: usize,
 }
 
-// The kept after a block, and whether there may be another.
+// What is kept after a block, and whether there may be another.
 struct Read {
     kept: Kept,
     more: bool,
