@@ -11,6 +11,7 @@ use Rattle.refusal.specs.Words.{pick, within, taken, refused, numberIn, Check, 
 use Rattle.refusal.specs.Order.{Passed}
 use Rattle.refusal.proofs.Order.{Each, told-each}
 use Rattle.refusal.proofs.Within.{above-range}
+use Rattle.opening.specs.Opening.{messageChecks}
 use Rattle.sentence.specs.Line.{parsedOf}
 use Rattle.sentence.specs.declared.AisSentence.{AisSentence}
 use Rattle.sentence.specs.declared.Parsed.{Parsed}
@@ -18,7 +19,7 @@ use Rattle.reassembly.specs.Record.{freshRecord, emptyAs, added, onto, checksBy
 use Rattle.reassembly.specs.declared.Fragment.{Fragment}
 use Rattle.reassembly.specs.declared.Part.{Part}
 use Rattle.reassembly.specs.declared.Record.{Record}
-use Rattle.ais.specs.Call.{Progress, fragmentOf, ownOf, kindOf, progressOf, joinedOf, handedOf, decodes, badChecksum, messageChecks, lineTooLong, lineBroken, noRoom, recordChecks, sentenceChecks, checksOf, doneBy, leftBy, callBy, Called, calledOf}
+use Rattle.ais.specs.Call.{Progress, fragmentOf, ownOf, kindOf, progressOf, joinedOf, handedOf, decodes, badChecksum, lineTooLong, lineBroken, noRoom, recordChecks, sentenceChecks, checksOf, doneBy, leftBy, callBy, Called, calledOf}
 use Rattle.ais.proofs.Received.{number-each, last-after}
 
 -- the numbers of the checks before the record's own, and of those after it

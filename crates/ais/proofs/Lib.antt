@@ -1,6 +1,5 @@
 pub mod Laws
 pub mod Received
 pub mod Called
-pub mod Local
 pub mod Promises
 pub mod Left

@@ -10,6 +10,7 @@ use lib.ListN.{length, take}
 use Rattle.refusal.specs.Words.{pick, within, Told, taken, refused, numberIn, Check, check, checked, over}
 use Rattle.refusal.specs.Order.{distinct, Passed}
 use Rattle.refusal.proofs.Order.{exactly, passed}
+use Rattle.opening.specs.Opening.{messageChecks}
 use Rattle.sentence.specs.Line.{parsedOf}
 use Rattle.sentence.specs.declared.AisSentence.{AisSentence}
 use Rattle.sentence.specs.declared.Parsed.{Parsed}
@@ -19,7 +20,7 @@ use Rattle.reassembly.specs.declared.Part.{Part}
 use Rattle.reassembly.specs.declared.Record.{Record}
 use Rattle.reassembly.proofs.Laws.{handed-joined}
 use Rattle.ais.specs.Sentence.{heardOf}
-use Rattle.ais.specs.Call.{Progress, complete, fragmentOf, ownOf, kindOf, progressOf, joinedOf, handedBy, handedOf, decodes, noRoom, lineTooLong, lineBroken, badChecksum, messageChecks, sentenceChecks, checksOf, doneBy, leftBy, callBy, Called, calledOf}
+use Rattle.ais.specs.Call.{Progress, complete, fragmentOf, ownOf, kindOf, progressOf, joinedOf, handedBy, handedOf, decodes, noRoom, lineTooLong, lineBroken, badChecksum, sentenceChecks, checksOf, doneBy, leftBy, callBy, Called, calledOf}
 use Rattle.ais.proofs.Received.{none-done, last-room, last-after}
 
 -- ---- "A refusal is given exactly when its condition holds .. and none earlier does."

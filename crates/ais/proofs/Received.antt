@@ -14,6 +14,7 @@ use Rattle.refusal.specs.Order.{Passed}
 use Rattle.refusal.proofs.Order.{later, stops, passing, Each, told-each}
 use Rattle.messages.specs.Messages.{noMessage}
 use Rattle.messages.specs.declared.Message.{Message}
+use Rattle.opening.specs.Opening.{messageChecks}
 use Rattle.sentence.specs.declared.AisSentence.{AisSentence}
 use Rattle.reassembly.specs.Record.{Join, joinIn, outcomeIn, added, joinedBytes, partOf, onto, severalChecks, checksBy, joinChecks, joinBy, joinOf}
 use Rattle.reassembly.specs.declared.Record.{Record}
@@ -22,7 +23,7 @@ use Rattle.reassembly.specs.declared.Joined.{Joined}
 use Rattle.reassembly.specs.declared.Outcome as joining
 use Rattle.reassembly.specs.declared.Part.{Part}
 use Rattle.reassembly.proofs.Laws.{join-checks, taken-part, taken-passed, handed-joined}
-use Rattle.ais.specs.Call.{Called, complete, unfinished, calledIn, fragmentOf, isComplete, progressOf, joinedOf, handedBy, messageChecks, recordChecks, kindOf, doneBy, leftBy, callWith}
+use Rattle.ais.specs.Call.{Called, complete, unfinished, calledIn, fragmentOf, isComplete, progressOf, joinedOf, handedBy, recordChecks, kindOf, doneBy, leftBy, callWith}
 use Rattle.ais.specs.Parts.{Handed, refusedAs, takenAs, finishedOf, receivedOf}
 use Rattle.ais.specs.declared.Outcome.{Outcome}
 use Rattle.ais.specs.declared.Stepped.{Stepped}

@@ -5,12 +5,12 @@ use mathlib.Core.Bool.{Bool, true, false, not, _&&_, _||_}
 use mathlib.Core.List.{List, [], _∷_, _++_}
 use lib.Dec.{ltb, eqb}
 use lib.ListN.{length, take, drop}
-use Rattle.refusal.specs.Words.{pick, within, Told, taken, refused, numberIn, Check, check, checked, left}
+use Rattle.refusal.specs.Words.{pick, within, Told, taken, refused, numberIn, Check, check, checked, onTaken, left}
 use Rattle.refusal.specs.Refusal.{told}
-use Rattle.armour.specs.Armour.{firstBad, unarmored}
-use Rattle.armour.specs.Unarmor.{noArmour}
-use Rattle.messages.specs.Messages.{noMessage, messageBy, typeOf, decodeChecks}
+use Rattle.armour.specs.Armour.{unarmored}
+use Rattle.messages.specs.Messages.{noMessage, messageBy, typeOf}
 use Rattle.messages.specs.declared.Message.{Message}
+use Rattle.opening.specs.Opening.{messageChecks}
 use Rattle.sentence.specs.Line.{parsedOf}
 use Rattle.sentence.specs.declared.AisSentence.{AisSentence}
 use Rattle.sentence.specs.declared.Parsed.{Parsed}
@@ -110,10 +110,6 @@ lineBroken (Parsed.Bad place) = true
 abbrev pub badChecksum : AisSentence → Bool
 badChecksum s = not (eqb (s .checksum) (s .«checksum_found»))
 
--- 8: "byte cannot be unarmored", then 9, 10 or 11 of the unarmored bytes
-abbrev pub messageChecks : List ℕ → ℕ → List Check
-messageChecks handed fill = check (noArmour handed) 8 (firstBad handed ∷ []) ∷ decodeChecks (unarmored handed fill)
-
 -- "4, 5, 6, 8, and then 9, 10 or 11" of a sentence whose checksum is right
 abbrev pub recordChecks : Record → AisSentence → List ℕ → Bool → List Check
 recordChecks r s own decode =
@@ -144,11 +140,6 @@ doneBy Part.Alone joined = joined
 -- "Refusals 8 to 11 on a last fragment leave its number stored and the bytes empty."
 abbrev pub leftBy : Record → Part → Record → ℕ → Record
 leftBy found part joined n = pick (within 1 3 n || eqb n 12) found (pick (within 4 6 n) joined (doneBy part joined))
-
--- what stands in the answer where the line is taken
-abbrev pub onTaken : {A : Type 0} → Told Progress → A → A → A
-onTaken (taken p) x other = x
-onTaken (refused n values) x other = other
 
 -- ---- the whole call
 -- of a sentence of which t is told, with the payload handed out, whether it is decoded, and the record left

@@ -1,20 +1,17 @@
 -- What the parts of the reader give back: a refused call, a complete message, and the record's step on a sentence whose checksum is right.
 use Prim.Native.Nat.{ℕ, _≤_}
-use mathlib.Core.Path.{_≡_}
 use mathlib.Core.Bool.{Bool}
 use mathlib.Core.List.{List, []}
-use lib.ListN.{length, take}
+use lib.ListN.{length}
 use Rattle.refusal.specs.Words.{pick, taken, numberIn, checked}
 use Rattle.refusal.specs.declared.Refusal.{Refusal}
-use Rattle.armour.specs.Armour.{size, unarmored}
-use Rattle.armour.specs.Unarmor.{answered}
-use Rattle.messages.specs.Messages.{noMessage, messageBy, typeOf, decodeChecks}
+use Rattle.messages.specs.Messages.{noMessage}
 use Rattle.messages.specs.declared.Message.{Message}
+use Rattle.opening.specs.Opening.{messageChecks}
 use Rattle.sentence.specs.declared.AisSentence.{AisSentence}
 use Rattle.reassembly.specs.declared.Record.{Record}
 use Rattle.ais.specs.Sentence.{heardOf, noSentence}
-use Rattle.ais.specs.Call.{Called, complete, kindOf, progressOf, joinedOf, handedOf, decodes, messageChecks, recordChecks, leftBy, callWith}
-use Rattle.ais.specs.declared.Opened.{Opened}
+use Rattle.ais.specs.Call.{Called, complete, kindOf, progressOf, joinedOf, handedOf, decodes, recordChecks, leftBy, callWith}
 use Rattle.ais.specs.declared.Outcome.{Outcome}
 use Rattle.ais.specs.declared.Stepped.{Stepped}
 
@@ -36,18 +33,6 @@ pub record Handed (fill : ℕ) (handed : List ℕ) : Type 0 where
 pub record Large (payload bits : List ℕ) : Type 0 where
   pub room : 384 ≤ length payload
   pub bitRoom : 288 ≤ length bits
-
--- n unarmored bytes d that are decoded
-pub record Decodes (d : List ℕ) (n : ℕ) (o : Opened) : Type 0 where
-  pub told : answered (o .outcome) ≡ checked (decodeChecks d) (taken n)
-  pub message : o .message ≡ messageBy (typeOf d) d
-
--- a message that is decoded: what is told of its bits, the message, and the bits in the scratch bytes
-pub record Opens (handed : List ℕ) (fill : ℕ) (o : Opened) (scratch : List ℕ) : Type 0 where
-  pub told : answered (o .outcome) ≡ checked (messageChecks handed fill) (taken (size (length handed)))
-  pub message : (n : ℕ) → answered (o .outcome) ≡ taken n → o .message ≡ messageBy (typeOf (unarmored handed fill)) (unarmored handed fill)
-  pub stands : (n : ℕ) → answered (o .outcome) ≡ taken n → take n scratch ≡ unarmored handed fill
-  pub whole : length scratch ≡ 288
 
 -- a complete message
 abbrev pub finishedOf : Record → AisSentence → List ℕ → Bool → List ℕ → List ℕ → Called

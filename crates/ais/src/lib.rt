@@ -1,4 +1,4 @@
-// Reading a line (sentence.rs, `AisParser::parse`): all the checks in their order. By value, over a lent record, and for programs.
+// Reading a line (sentence.rs, `AisParser::parse`): all the checks in their order, with the record by value. Crate `reader` has the same over a lent record.
 use armour::Unarmored;
 use messages::Message;
 use reassembly::Fragment;
@@ -13,11 +13,11 @@ use sentence::Parsed;
 use sentence::TalkerId;
 ghost use mathlib.Core.Path.{_≡_};
 ghost use Prim.Native.Nat.{_≤_};
-ghost use lib.ListN.{length, take};
+ghost use lib.ListN.{length};
 ghost use Rattle.refusal.specs.Words.{over};
 ghost use Rattle.ais.specs.Sentence.{trueType, heardOf, noSentence};
 ghost use Rattle.ais.specs.Call.{calledIn, calledOf};
-ghost use Rattle.ais.specs.Parts.{Handed, Large, Decodes, Opens, refusedAs, takenAs, finishedOf, receivedOf};
+ghost use Rattle.ais.specs.Parts.{Handed, Large, refusedAs, takenAs, finishedOf, receivedOf};
 
 // The type that the payload's first byte tells, absent where that byte is no armour.
 pub enum TrueType {
@@ -57,24 +57,6 @@ pub struct Answer {
 pub struct Stepped {
     pub state: Record,
     pub answer: Answer,
-}
-
-// The count of a message's unarmored bytes or why there are none, and the message.
-pub struct Opened {
-    pub outcome: Unarmored,
-    pub message: Message,
-}
-
-// The bytes of s put first in `out`; all further bytes stay.
-fn put_first(out: &mut [u8], s: &[u8])
-    requires { ⌜ length (now s) ≤ length (now out) ⌝ }
-    ensures { λ _. ⌜ now (out .exit) ≡ over (now (s .entry)) (now (out .entry)) ⌝ }
-{
-    let mut i: usize = 0;
-    while i < s.len() {
-        out[i] = s[i];
-        i += 1;
-    }
 }
 
 // The true type of a payload.
@@ -150,40 +132,6 @@ fn refused(state: Record, refusal: Refusal) -> Stepped
     }
 }
 
-// Decodes the first n of the scratch bytes.
-fn decoded(scratch: &[u8], n: usize) -> Opened
-    requires { ⌜ n ≤ length (now scratch) ⌝ }
-    ensures { λ r. ⌜ Decodes (take n (now (scratch .entry))) n r ⌝ }
-{
-    let found = messages::parse(&scratch[..n]);
-    let message = found.message;
-    let outcome = found.outcome;
-    match outcome {
-        messages::Outcome::Taken => Opened {
-            outcome: Unarmored::Bytes(n),
-            message: message,
-        },
-        messages::Outcome::Refused(refusal) => Opened {
-            outcome: Unarmored::Refused(refusal),
-            message: message,
-        },
-    }
-}
-
-// Unarmors a complete message into the scratch bytes and decodes it: refusal 8, then 9, 10 or 11.
-fn open(handed: &[u8], fill: u8, scratch: &mut [u8]) -> Opened
-    requires { ⌜ Handed fill (now handed) × (length (now scratch) ≡ 288) ⌝ }
-    ensures { λ r. ⌜ Opens (now (handed .entry)) fill r (now (scratch .exit)) ⌝ }
-{
-    match armour::unarmor(handed, fill as usize, scratch) {
-        Unarmored::Refused(refusal) => Opened {
-            outcome: Unarmored::Refused(refusal),
-            message: messages::nothing(),
-        },
-        Unarmored::Bytes(n) => decoded(scratch, n),
-    }
-}
-
 // A line that is taken: the payload handed out stands first in the payload buffer.
 fn taken(
     state: Record,
@@ -197,7 +145,7 @@ fn taken(
     ensures { λ r. ⌜ r ≡ takenAs state outcome s (now (handed .entry)) message ⌝ }
     ensures { λ r. ⌜ now (payload .exit) ≡ over (now (handed .entry)) (now (payload .entry)) ⌝ }
 {
-    put_first(payload, handed);
+    bytes::copy(handed, payload);
     let sentence = heard(s, handed);
     Stepped {
         state: state,
@@ -225,16 +173,12 @@ fn finish(
         let message = messages::nothing();
         return taken(state, Outcome::Complete, s, handed, message, payload);
     }
-    let mut scratch = [0u8; 288];
-    let opened = open(handed, s.fill_bit_count, &mut scratch);
+    let opened = opening::open(handed, s.fill_bit_count as usize, bits);
     let message = opened.message;
     let outcome = opened.outcome;
     match outcome {
         Unarmored::Refused(refusal) => refused(state, refusal),
-        Unarmored::Bytes(n) => {
-            put_first(bits, &scratch[..n]);
-            taken(state, Outcome::Complete, s, handed, message, payload)
-        }
+        Unarmored::Bytes(_) => taken(state, Outcome::Complete, s, handed, message, payload),
     }
 }
 
@@ -308,38 +252,5 @@ pub fn step(
             let end = s.payload_end;
             receive(state, s, &line[start..end], decode, payload, bits)
         }
-    }
-}
-
-// The same over a record that the caller lends, who finds its new state there.
-pub fn read(
-    state: &mut Record,
-    line: &[u8],
-    decode: bool,
-    payload: &mut [u8],
-    bits: &mut [u8],
-) -> Answer
-    ensures { λ r. ⌜ calledIn (record { state = now (state .exit); answer = r }) (now (payload .exit)) (now (bits .exit)) ≡ calledOf (now (state .entry)) (now (line .entry)) decode (now (payload .entry)) (now (bits .entry)) ⌝ }
-{
-    let s = step(*state, line, decode, payload, bits);
-    *state = s.state;
-    s.answer
-}
-
-// For whoever holds the record by value, as a program's loop does: it is lent to `read` and comes back.
-pub fn turn(
-    state: Record,
-    line: &[u8],
-    decode: bool,
-    payload: &mut [u8],
-    bits: &mut [u8],
-) -> Stepped
-    ensures { λ r. ⌜ calledIn r (now (payload .exit)) (now (bits .exit)) ≡ calledOf state (now (line .entry)) decode (now (payload .entry)) (now (bits .entry)) ⌝ }
-{
-    let mut held = state;
-    let answer = read(&mut held, line, decode, payload, bits);
-    Stepped {
-        state: held,
-        answer: answer,
     }
 }

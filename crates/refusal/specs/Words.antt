@@ -24,6 +24,11 @@ abbrev pub numberIn : {A : Type 0} → Told A → ℕ
 numberIn (taken a) = 0
 numberIn (refused n values) = n
 
+-- what stands in an answer where the call is taken, and where it is refused
+abbrev pub onTaken : {A B : Type 0} → Told A → B → B → B
+onTaken (taken a) x other = x
+onTaken (refused n values) x other = other
+
 -- one of document 01's checks: whether it fails, and the number and values that are then told
 pub record Check : Type 0 where
   pub fails : Bool

@@ -1,4 +1,4 @@
--- `ais::read` meets its contract: a walk of its MIR, by hand. The record is lent by `&mut`: the borrow is opened, the record is copied out, `step` is called on the copy and on the other parameters as they came, the record that comes back is stored, and the borrow is closed at it.
+-- `reader::read` meets its contract: a walk of its MIR, by hand. The record is lent by `&mut`: the borrow is opened, the record is copied out, `step` is called on the copy and on the other parameters as they came, the record that comes back is stored, and the borrow is closed at it.
 -- All that the proof knows of `step` is that it meets its contract. The record's borrow stays open over the call: `step` is not passed it. The two buffers are passed on for good, each at its own lifetime, share and ghost name (`gave-slice`): what `step` says of their last lists is said of `read`'s. Of the line and of decode nothing is kept to the exit (`stay-dropped`): a contract says nothing of what cannot change.
 -- `step` takes what `read` takes, in the same order, with the record by value: so what `read`'s further parameters own is, as it stands, what `step` asks beside the record.
 -- Assumes nothing.
@@ -46,26 +46,26 @@ use denote.Triple.Table.{entered, cited}
 use denote.Triple.Walked.{says, Stays, stay-ref, stay-dropped, gave-slice, walkOf, goes-ref, goes-dropped, goes-gave-slice, Walks, ends-at, walked, walk-meets}
 use denote.Exit.{yes}
 use denote.Signature.{Slot, plain, shrSliceOf}
 use Rattle.ais.specs.Call.{Called, calledIn, calledOf}
 use Rattle.reassembly.specs.declared.Record.{Record}
 use Rattle.ais.specs.declared.Stepped.{Stepped}
 use Rattle.ais.specs.declared.Answer.{Answer}
 use Rattle.reassembly.proofs.Record as T
 use Rattle.reassembly.proofs.Record.Laws as T′
 use Rattle.ais.proofs.Stepped as S
 use Rattle.ais.proofs.Stepped.Laws as S′
 use Rattle.ais.proofs.Answer as N
 use Rattle.ais.proofs.Answer.Laws as N′
-use Rattle.ais.proofs.Local.{R, mach, answered, recordRef, byteRef, slice, Rest, ref, RestVals, restVals}
+use Rattle.reader.proofs.Local.{R, mach, answered, recordRef, byteRef, slice, Rest, ref, RestVals, restVals}
 use Rattle.ais.proofs.step as step
 use Rattle.ais.proofs.step.Symbol as step-def
 use Rattle.ais.proofs.step.Symbol.{name as #ais·step}
 use Rattle.ais.proofs.step.Met as step-thm
-use Rattle.ais.proofs.read.Key.{name as #ais·read}
-use Rattle.ais.proofs.read as read
-use Rattle.ais.proofs.read.Statement as stated
-use Rattle.ais.proofs.read.Code as code
-use Rattle.ais.proofs.read.Code.Mir as pieces
+use Rattle.reader.proofs.read.Key.{name as #reader·read}
+use Rattle.reader.proofs.read as read
+use Rattle.reader.proofs.read.Statement as stated
+use Rattle.reader.proofs.read.Code as code
+use Rattle.reader.proofs.read.Code.Mir as pieces
 
 -- the type of what `step` returns, at any type of the answer
 abbrev fields : Ty → Tys
@@ -235,6 +235,6 @@ pub read-spec : {M : Type 1} → stated.statement M
 unfolding code.routine tablesOf
 read-spec 𝓤 H 𝓜 𝓖 𝓡 =
     entered 𝓤 H (tripleOf 𝓤 H (𝓖 .A) read.signature (read.spec 𝓤 H (𝓖 .A) (𝓜 .mem) (𝓡 .run)))
-    (tables 𝓤 H 𝓜 𝓡 code.env .C) (tables 𝓤 H 𝓜 𝓡 code.env .Λ) #ais·read code.function (code.unfolded 𝓤 H 𝓜 𝓡)
+    (tables 𝓤 H 𝓜 𝓡 code.env .C) (tables 𝓤 H 𝓜 𝓡 code.env .Λ) #reader·read code.function (code.unfolded 𝓤 H 𝓜 𝓡)
     (read-meets 𝓤 H (𝓖 .A) (givenOf 𝓤 H 𝓜 𝓖) (𝓜 .mem) (𝓡 .run) (tablesOf 𝓤 H 𝓜 (tables 𝓤 H 𝓜 𝓡 code.env))
     (cited 𝓤 H (StepC 𝓤 H (𝓖 .A) (𝓜 .mem) (𝓡 .run)) 𝓜 𝓡 code.env #ais·step step-def.routine code.calls-ais·step (step-thm.met 𝓤 H 𝓜 𝓖 𝓡)))

@@ -1,4 +1,4 @@
--- `ais::turn` meets its contract: a walk of its MIR, by hand. The record, which came by value, is in a local, `held`, that is lent to `read` by `&mut`: a lifetime is made for the call, the local is lent for it, the call, the lifetime is ended, and the local is back, at the record that `read` says.
+-- `reader::turn` meets its contract: a walk of its MIR, by hand. The record, which came by value, is in a local, `held`, that is lent to `read` by `&mut`: a lifetime is made for the call, the local is lent for it, the call, the lifetime is ended, and the local is back, at the record that `read` says.
 -- All that the proof knows of `read` is that it meets its contract. The two buffers are passed on for good (`gave-slice`), and of the other parameters nothing is kept to the exit (`stay-dropped`).
 -- Assumes nothing.
 use mathlib.Core.Path.{_≡_, refl, ap, subst}
@@ -45,26 +45,26 @@ use denote.Triple.Table.{entered, cited}
 use denote.Triple.Walked.{says, Stays, stay-dropped, gave-slice, walkOf, goes-dropped, goes-gave-slice, Walks, ends-at, walked, walk-meets}
 use denote.Exit.{yes}
 use denote.Signature.{Slot, plain, shrSliceOf}
 use Rattle.ais.specs.Call.{Called, calledIn, calledOf}
 use Rattle.reassembly.specs.declared.Record.{Record}
 use Rattle.ais.specs.declared.Stepped.{Stepped}
 use Rattle.ais.specs.declared.Answer.{Answer}
 use Rattle.reassembly.proofs.Record as T
 use Rattle.reassembly.proofs.Record.Laws as T′
 use Rattle.ais.proofs.Stepped as S
 use Rattle.ais.proofs.Stepped.Laws as S′
 use Rattle.ais.proofs.Answer as N
 use Rattle.ais.proofs.Answer.Laws as N′
-use Rattle.ais.proofs.Local.{R, mach, answered, recordRef, byteRef, slice, Rest, ref, RestVals, restVals, lies-in, lies-out}
-use Rattle.ais.proofs.read as read
-use Rattle.ais.proofs.read.Symbol as read-def
-use Rattle.ais.proofs.read.Symbol.{name as #ais·read}
-use Rattle.ais.proofs.read.Met as read-thm
-use Rattle.ais.proofs.turn.Key.{name as #ais·turn}
-use Rattle.ais.proofs.turn as turn
-use Rattle.ais.proofs.turn.Statement as stated
-use Rattle.ais.proofs.turn.Code as code
-use Rattle.ais.proofs.turn.Code.Mir as pieces
+use Rattle.reader.proofs.Local.{R, mach, answered, recordRef, byteRef, slice, Rest, ref, RestVals, restVals, lies-in, lies-out}
+use Rattle.reader.proofs.read as read
+use Rattle.reader.proofs.read.Symbol as read-def
+use Rattle.reader.proofs.read.Symbol.{name as #reader·read}
+use Rattle.reader.proofs.read.Met as read-thm
+use Rattle.reader.proofs.turn.Key.{name as #reader·turn}
+use Rattle.reader.proofs.turn as turn
+use Rattle.reader.proofs.turn.Statement as stated
+use Rattle.reader.proofs.turn.Code as code
+use Rattle.reader.proofs.turn.Code.Mir as pieces
 
 -- the line's place in the signature
 abbrev LineS : Slot 3
@@ -154,7 +154,7 @@ module _ {M : Type 1} (𝓤 : URA M) (H : Heap 𝓤) (A : Atoms 𝓤) (W : Given
       nothing ! $ move ! (2 ∷ 0 ∷ []) $ fjoin ! $ move ! (1 ∷ 0 ∷ []) $ fjoin ! $ nothing ! $ fjoin ! $ nothing ! $ fjoin ! $ nothing ! $ fjoin ! $ frame ! $
       owned ! S.the-row (Is S.the-row) (LL.makes S.the-type S′.the-plain 𝓤 H A) (both r (ws .0)) _ got $ done !
 
-  module _ (C : Calls 𝓤 H) (Λ : Loops 𝓤 H) (fm : FmC 𝓤 H (W .laws) C) (known : Triple 𝓤 (C #ais·read) (ReadC 𝓤 H A at-mem run)) where
+  module _ (C : Calls 𝓤 H) (Λ : Loops 𝓤 H) (fm : FmC 𝓤 H (W .laws) C) (known : Triple 𝓤 (C #reader·read) (ReadC 𝓤 H A at-mem run)) where
     -- the body, at any types of the answer and of what is returned that have what the walk needs of them: so it never looks into them
     module _ (τN τS : Ty) (N-typed : (r : Answer) (w : Val) → Is N.the-row r (w ∷ []) → Holds (hasTy τN w) × WT w)
         (S-typed : (r : Answer) (g : Record) → Is S.the-row (both r g) (LL.vals S.the-type S′.the-laws (both r g)) → Holds (hasTy τS (LL.val S.the-type S′.the-laws (both r g))) × WT (LL.val S.the-type S′.the-laws (both r g)))
@@ -211,14 +211,14 @@ module _ {M : Type 1} (𝓤 : URA M) (H : Heap 𝓤) (A : Atoms 𝓤) (W : Given
         body N′.mir S′.mir (λ r w is. LL.lawful N.the-type N′.the-laws 𝓤 H A W .typed r _ is .0) (λ r g is. LL.lawful S.the-type S′.the-laws 𝓤 H A W .typed (both r g) _ is .0) room-x room-p room-z l₀ l₁ l₂ l₃ l₄ l₅ l₆ l₇ l₈ l₉ l₁₀ l₁₁ l₁₂ l₁₃))))))))))))))
 
 module _ {M : Type 1} (𝓤 : URA M) (H : Heap 𝓤) (A : Atoms 𝓤) (W : Given 𝓤 H A) (mem : Memory → SProp 𝓤) (run : Routine → Fun 𝓤) where
-  turn-walks : (C : Calls 𝓤 H) (Λ : Loops 𝓤 H) → FmC 𝓤 H (W .laws) C → Triple 𝓤 (C #ais·read) (ReadC 𝓤 H A mem run) → Walks 𝓤 H A turn.ended stayed (WpFn 𝓤 H C Λ code.function) (turn.clauses 𝓤 H A mem run)
+  turn-walks : (C : Calls 𝓤 H) (Λ : Loops 𝓤 H) → FmC 𝓤 H (W .laws) C → Triple 𝓤 (C #reader·read) (ReadC 𝓤 H A mem run) → Walks 𝓤 H A turn.ended stayed (WpFn 𝓤 H C Λ code.function) (turn.clauses 𝓤 H A mem run)
   turn-walks C Λ fm known = walked 𝓤 H A turn.ended stayed (turn.clauses 𝓤 H A mem run) (WpFn 𝓤 H C Λ code.function)
       (λ κs. (LL.vals T.the-type T′.the-laws, (slice-vals, (bool-vals, (slice-vals, (slice-vals, tt))))))
       (λ κs. (LL.tells T.the-type T′.the-laws, (shr-slice-tells (named 0) (κs .0) u8, (bool-tells, (mut-slice-tells (named 1) (κs .1 .0) u8, (mut-slice-tells (named 2) (κs .1 .1 .0) u8, tt))))))
       (λ κs qs bounds a g are. via 𝓤 _ (fst∗ 𝓤 _ (emp 𝓤)) (walk 𝓤 H A W mem run (κs .0) (κs .1 .0) (κs .1 .1 .0) (qs .0) (qs .1 .0) (qs .1 .1 .0)
       (a .0) (a .1 .0) (a .1 .1 .0) (a .1 .1 .1 .0) (a .1 .1 .1 .1 .0) (are .0) C Λ fm known (are .1 .0 .0 .1) (are .1 .1 .1 .0 .0 .1) (are .1 .1 .1 .1 .0 .0 .1)))
 
-turn-meets : {M : Type 1} (𝓤 : URA M) (H : Heap 𝓤) (A : Atoms 𝓤) → Given 𝓤 H A → (mem : Memory → SProp 𝓤) (run : Routine → Fun 𝓤) (𝓣 : Tables 𝓤 H) → Triple 𝓤 (𝓣 .C #ais·read) (ReadC 𝓤 H A mem run)
+turn-meets : {M : Type 1} (𝓤 : URA M) (H : Heap 𝓤) (A : Atoms 𝓤) → Given 𝓤 H A → (mem : Memory → SProp 𝓤) (run : Routine → Fun 𝓤) (𝓣 : Tables 𝓤 H) → Triple 𝓤 (𝓣 .C #reader·read) (ReadC 𝓤 H A mem run)
     → Meets 𝓤 H A turn.signature (WpFn 𝓤 H (𝓣 .C) (𝓣 .Λ) code.function) (turn.spec 𝓤 H A mem run)
 turn-meets 𝓤 H A W mem run 𝓣 known =
     walk-meets 𝓤 H A turn.ended stayed W
@@ -230,6 +230,6 @@ pub turn-spec : {M : Type 1} → stated.statement M
 unfolding code.routine tablesOf
 turn-spec 𝓤 H 𝓜 𝓖 𝓡 =
     entered 𝓤 H (tripleOf 𝓤 H (𝓖 .A) turn.signature (turn.spec 𝓤 H (𝓖 .A) (𝓜 .mem) (𝓡 .run)))
-    (tables 𝓤 H 𝓜 𝓡 code.env .C) (tables 𝓤 H 𝓜 𝓡 code.env .Λ) #ais·turn code.function (code.unfolded 𝓤 H 𝓜 𝓡)
+    (tables 𝓤 H 𝓜 𝓡 code.env .C) (tables 𝓤 H 𝓜 𝓡 code.env .Λ) #reader·turn code.function (code.unfolded 𝓤 H 𝓜 𝓡)
     (turn-meets 𝓤 H (𝓖 .A) (givenOf 𝓤 H 𝓜 𝓖) (𝓜 .mem) (𝓡 .run) (tablesOf 𝓤 H 𝓜 (tables 𝓤 H 𝓜 𝓡 code.env))
-    (cited 𝓤 H (ReadC 𝓤 H (𝓖 .A) (𝓜 .mem) (𝓡 .run)) 𝓜 𝓡 code.env #ais·read read-def.routine code.calls-ais·read (read-thm.met 𝓤 H 𝓜 𝓖 𝓡)))
+    (cited 𝓤 H (ReadC 𝓤 H (𝓖 .A) (𝓜 .mem) (𝓡 .run)) 𝓜 𝓡 code.env #reader·read read-def.routine code.calls-reader·read (read-thm.met 𝓤 H 𝓜 𝓖 𝓡)))
