@@ -15,6 +15,7 @@ use Rattle.words.specs.declared.Filled.the-variants.{Bytes, Bad as NoBytes}
 use Rattle.armour.specs.Armour.{unarmored}
 use Rattle.armour.specs.Unarmor.{answerOf}
 use Rattle.show.specs.Shown.{lentBytes, fillShown}
+use Rattle.shown_message.specs.Message.{decodedShown}
 use Rattle.protocol.specs.declared.Ask.{Ask}
 use Rattle.protocol.specs.declared.Ask.the-variants.{Unarmor, Bad as NoCommand}
 
@@ -57,9 +58,14 @@ askSaid w NoCommand = bad
 abbrev pub unarmorSaid : List ℕ → List ℕ
 unarmorSaid line = askSaid (wordAt 3 line) (unarmorAsked line)
 
+-- `decode BYTES`, of at most 4,096 bytes
+abbrev pub decodeSaid : List ℕ → List ℕ
+decodeSaid line = let w = wordAt 1 line in pick (eqb (countOf line) 2) (withBytes (filledOf w 4096) (decodedShown (bytesOf w))) bad
+
 -- what is said to a command line
 unfoldable pub saidOf : List ℕ → List ℕ
 saidOf line =
     pick (sameAs (wordAt 0 line) (ascii "fresh")) (freshSaid line)
     (pick (sameAs (wordAt 0 line) (ascii "unarmor")) (unarmorSaid line)
-    bad)
+    (pick (sameAs (wordAt 0 line) (ascii "decode")) (decodeSaid line)
+    bad))

@@ -4,7 +4,7 @@ use words::Filled;
 use words::Number;
 ghost use mathlib.Core.Path.{_≡_};
 ghost use Rattle.text_out.specs.Text.{text, put};
-ghost use Rattle.protocol.specs.Said.{bad, freshSaid, unarmorAsked, unarmorShown, unarmorSaid, saidOf};
+ghost use Rattle.protocol.specs.Said.{bad, freshSaid, unarmorAsked, unarmorShown, unarmorSaid, decodeSaid, saidOf};
 
 // The numbers of a command, or that it is none.
 enum Ask {
@@ -21,6 +21,9 @@ pub fn answer(line: &[u8], out: &mut [u8], at: usize) -> usize
     }
     if words::named(line, 0, b"unarmor") {
         return say_unarmor(line, out, at);
+    }
+    if words::named(line, 0, b"decode") {
+        return say_decode(line, out, at);
     }
     say_bad(out, at)
 }
@@ -60,7 +63,9 @@ fn say_unarmor(line: &[u8], out: &mut [u8], at: usize) -> usize
 }
 
 // `decode BYTES`: decoding alone.
-pub fn say_decode(line: &[u8], out: &mut [u8], at: usize) -> usize {
+fn say_decode(line: &[u8], out: &mut [u8], at: usize) -> usize
+    ensures { λ r. ⌜ text r (now (out .exit)) ≡ put (text at (now (out .entry))) (decodeSaid (now (line .entry))) ⌝ }
+{
     if words::count(line) != 2 {
         return say_bad(out, at);
     }

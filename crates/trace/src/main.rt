@@ -48,18 +48,10 @@ fn emptied(s: Kept, out: &[u8]) -> Kept {
     }
 }
 
-// The answer to a command.
-fn answer_command(line: &[u8], out: &mut [u8], used: usize) -> usize {
-    if words::named(line, 0, b"decode") {
-        return protocol::say_decode(line, out, used);
-    }
-    protocol::answer(line, out, used)
-}
-
 // A line: its answer, and an LF. Answers the place behind them.
 fn answer_line(line: &[u8], n: usize, out: &mut [u8], used: usize) -> usize {
     let k = text_out::up_to(n, line);
-    let at = answer_command(&line[..k], out, used);
+    let at = protocol::answer(&line[..k], out, used);
     text_out::put_byte(out, at, b'\n')
 }
 

@@ -39,8 +39,14 @@ unfolding saidOf
 returns-2 c =
     rw (sym (c .before .before .before .before .before .before .before .before .named .ensures) ∙ c .before .before .before .before .before .before .before .if1 .left, sym (c .before .before .before .before .before .named2 .ensures) ∙ c .before .before .before .before .if2 .taken) (c .before .before .say-unarmor .ensures)
 
-say-bad-requires : tie.Need-say-bad-requires
-say-bad-requires c κs = search needs
+slice-aggregate-named-3 : tie.Need-slice-aggregate-named-3
+slice-aggregate-named-3 c = search needs
+
+named-requires-3 : tie.Need-named-requires-3
+named-requires-3 c κs = search needs
+
+say-decode-requires : tie.Need-say-decode-requires
+say-decode-requires c κs = search needs
 
 same-length-3 : tie.Need-same-length-3
 same-length-3 c = search needs
@@ -48,7 +54,18 @@ same-length-3 c = search needs
 returns-3 : tie.Need-returns-3
 unfolding saidOf
 returns-3 c =
-    rw (sym (c .before .before .before .before .before .before .before .before .named .ensures) ∙ c .before .before .before .before .before .before .before .if1 .left, sym (c .before .before .before .before .before .named2 .ensures) ∙ c .before .before .before .before .if2 .left) (c .before .before .say-bad .ensures)
+    rw (sym (c .before .before .before .before .before .before .before .before .before .before .before .named .ensures) ∙ c .before .before .before .before .before .before .before .before .before .before .if1 .left, sym (c .before .before .before .before .before .before .before .before .named2 .ensures) ∙ c .before .before .before .before .before .before .before .if2 .left, sym (c .before .before .before .before .before .named3 .ensures) ∙ c .before .before .before .before .if3 .taken) (c .before .before .say-decode .ensures)
+
+say-bad-requires : tie.Need-say-bad-requires
+say-bad-requires c κs = search needs
+
+same-length-4 : tie.Need-same-length-4
+same-length-4 c = search needs
+
+returns-4 : tie.Need-returns-4
+unfolding saidOf
+returns-4 c =
+    rw (sym (c .before .before .before .before .before .before .before .before .before .before .before .named .ensures) ∙ c .before .before .before .before .before .before .before .before .before .before .if1 .left, sym (c .before .before .before .before .before .before .before .before .named2 .ensures) ∙ c .before .before .before .before .before .before .before .if2 .left, sym (c .before .before .before .before .before .named3 .ensures) ∙ c .before .before .before .before .if3 .left) (c .before .before .say-bad .ensures)
 
 pub answer-spec : {M : Type 1} → statement M
 answer-spec =
@@ -64,6 +81,11 @@ answer-spec =
     say-unarmor-requires
     same-length-2
     returns-2
-    say-bad-requires
+    slice-aggregate-named-3
+    named-requires-3
+    say-decode-requires
     same-length-3
-    returns-3)
+    returns-3
+    say-bad-requires
+    same-length-4
+    returns-4)

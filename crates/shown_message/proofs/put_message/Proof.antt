@@ -1,6 +1,4 @@
--- `shown_message::put_message` ends. Assumes nothing.
-use mathlib.Core.Path.{subst}
-use Rattle.shown_message.specs.Message.{FiniteIn}
+-- `shown_message::put_message` meets its contract. Assumes nothing.
 use borrow.Author.Needs.{needs}
 use Rattle.shown_message.proofs.put_message.Statement.{statement}
 use Rattle.shown_message.proofs.put_message.Tie as tie
@@ -18,7 +16,7 @@ enum-known-content : tie.Need-enum-known-content
 enum-known-content c = search needs
 
 put-position-requires : tie.Need-put-position-requires
-put-position-requires c κs = subst FiniteIn (c .before .before .content .given .1) (c .before .before .before .before .before .pre)
+put-position-requires c κs = search needs
 
 enum-known-content-2 : tie.Need-enum-known-content-2
 enum-known-content-2 c = search needs
@@ -36,25 +34,25 @@ same-length : tie.Need-same-length
 same-length c = search needs
 
 returns : tie.Need-returns
-returns c = search needs
+returns c = rw (c .before .before .before .before .before .enum-told .given .1) (c .before .before .put-bytes .ensures)
 
 same-length-2 : tie.Need-same-length-2
 same-length-2 c = search needs
 
 returns-2 : tie.Need-returns-2
-returns-2 c = search needs
+returns-2 c = rw (c .before .before .before .before .before .content .given .1) (c .before .before .put-position .ensures)
 
 same-length-3 : tie.Need-same-length-3
 same-length-3 c = search needs
 
 returns-3 : tie.Need-returns-3
-returns-3 c = search needs
+returns-3 c = rw (c .before .before .before .before .before .content2 .given .1) (c .before .before .put-static .ensures)
 
 same-length-4 : tie.Need-same-length-4
 same-length-4 c = search needs
 
 returns-4 : tie.Need-returns-4
-returns-4 c = search needs
+returns-4 c = rw (c .before .before .before .before .enum-told2 .given .1) (c .before .before .put-interrogation .ensures)
 
 pub put-message-spec : {M : Type 1} → statement M
 put-message-spec =
