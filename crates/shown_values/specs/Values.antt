@@ -40,7 +40,7 @@ flagShown flag = number (pick flag 1 0)
 abbrev pub pattern : ℕ → List ℕ
 pattern bits = 32 ∷ wordOf bits
 
--- a NaN has no bit pattern of its own, and is the word `nan`: no decoded report holds one (position_report, `readings-finite`)
+-- a NaN has no bit pattern of its own, and is the word `nan`; no decoded report holds one, so none is shown (the law `finite-shown`)
 abbrev pub floatShown : Float → List ℕ
 floatShown x = pick (isNan x) (ascii " nan") (pattern (toBits binary32 x))
 
