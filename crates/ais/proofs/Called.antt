@@ -1,5 +1,5 @@
 -- The ways out of a line: refused with 12, 1, 2 or 3, or the record's step on its sentence. Assumes nothing.
-use mathlib.Core.Path.{_≡_, refl, subst}
+use mathlib.Core.Path.{_≡_, refl, ap, subst}
 use mathlib.Core.Bool.{Bool}
 use mathlib.Core.List.{List, []}
 use Prim.Native.Nat.{ℕ, _≤_, _<_, _-_}
@@ -15,9 +15,18 @@ use Rattle.sentence.specs.declared.Parsed.{Parsed}
 use Rattle.sentence.proofs.Laws.{SentenceIn, ParsedIn, parsed-in}
 use Rattle.reassembly.specs.declared.Part.{Part}
 use Rattle.reassembly.specs.declared.Record.{Record}
-use Rattle.ais.specs.Call.{Progress, complete, calledIn, ownOf, kindOf, progressOf, joinedOf, checksOf, leftBy, callBroken, callBy, calledOf}
+use Rattle.ais.specs.Call.{Progress, complete, Called, calledIn, ownOf, kindOf, progressOf, joinedOf, checksOf, leftBy, callBroken, callBy, calledOf}
 use Rattle.ais.specs.Parts.{refusedAs, receivedOf}
 use Rattle.ais.specs.declared.Stepped.{Stepped}
+
+-- a call on a line whose sentence is s
+module _ (r : Record) (line : List ℕ) (decode : Bool) (payload bits : List ℕ) (s : AisSentence) where
+  abbrev pub callAs : Called
+  callAs = callBy (checksOf r line decode (length payload) (length bits)) r line decode (Parsed.Sentence s) payload bits
+
+  pub called-as : parsedOf line ≡ Parsed.Sentence s → calledOf r line decode payload bits ≡ callAs
+  unfolding calledOf
+  called-as e = ap (λ (p : Parsed). callBy (checksOf r line decode (length payload) (length bits)) r line decode p payload bits) e
 
 -- where the payload of a line's sentence stands
 module _ (line : List ℕ) (s : AisSentence) (e : parsedOf line ≡ Parsed.Sentence s) where

@@ -15,11 +15,12 @@ use Rattle.opening.specs.Opening.{messageChecks}
 use Rattle.sentence.specs.Line.{parsedOf}
 use Rattle.sentence.specs.declared.AisSentence.{AisSentence}
 use Rattle.sentence.specs.declared.Parsed.{Parsed}
-use Rattle.reassembly.specs.Record.{freshRecord, emptyAs, added, onto, checksBy, joinChecks, joinBy, joinOf}
+use Rattle.reassembly.specs.Record.{freshRecord, emptyAs, onto, checksBy, joinChecks, joinBy, joinOf}
 use Rattle.reassembly.specs.declared.Fragment.{Fragment}
 use Rattle.reassembly.specs.declared.Part.{Part}
 use Rattle.reassembly.specs.declared.Record.{Record}
-use Rattle.ais.specs.Call.{Progress, fragmentOf, ownOf, kindOf, progressOf, joinedOf, handedOf, decodes, badChecksum, lineTooLong, lineBroken, noRoom, recordChecks, sentenceChecks, checksOf, doneBy, leftBy, callBy, Called, calledOf}
+use Rattle.ais.proofs.Called.{callAs, called-as}
+use Rattle.ais.specs.Call.{Progress, fragmentOf, ownOf, kindOf, progressOf, joinedOf, handedOf, decodes, badChecksum, lineTooLong, lineBroken, noRoom, recordChecks, sentenceChecks, doneBy, leftBy, Called, calledOf}
 use Rattle.ais.proofs.Received.{number-each, last-after}
 
 -- the numbers of the checks before the record's own, and of those after it
@@ -79,13 +80,6 @@ joins-left Part.Last r o f own n values d e = rw e
 joins-left Part.Alone r o f own n values d e = absurd (d refl)
 
 module _ (r : Record) (line : List ℕ) (decode : Bool) (payload bits : List ℕ) (s : AisSentence) (e : parsedOf line ≡ Parsed.Sentence s) where
-  abbrev call : Called
-  call = callBy (checksOf r line decode (length payload) (length bits)) r line decode (Parsed.Sentence s) payload bits
-
-  its-call : calledOf r line decode payload bits ≡ call
-  unfolding calledOf
-  its-call = ap (λ (p : Parsed). callBy (checksOf r line decode (length payload) (length bits)) r line decode p payload bits) e
-
   zero-after : After 0
   unfolding within
   zero-after = (refl, refl)
@@ -96,7 +90,7 @@ module _ (r : Record) (line : List ℕ) (decode : Bool) (payload bits : List ℕ
       place-before (kindOf s) (progressOf (kindOf s)) (check (badChecksum s) 3 (s .checksum ∷ s .«checksum_found» ∷ []) ∷ []) (recordChecks r s (ownOf line s) decode) (joinChecks r (fragmentOf s) (ownOf line s)) (refl, tt)
       (place-joins (kindOf s) (progressOf (kindOf s)) (joinChecks r (fragmentOf s) (ownOf line s)) (pick (decodes decode s) (messageChecks (handedOf r s (ownOf line s)) (s .«fill_bit_count»)) []) zero-after (messages-after (decodes decode s) (handedOf r s (ownOf line s)) (s .«fill_bit_count»)))
 
-  its-place : Place (kindOf s) (joinChecks r (fragmentOf s) (ownOf line s)) (numberIn (call .told))
+  its-place : Place (kindOf s) (joinChecks r (fragmentOf s) (ownOf line s)) (numberIn (callAs r line decode payload bits s .told))
   unfolding within
   its-place =
       place-before (kindOf s) (progressOf (kindOf s))
@@ -105,11 +99,11 @@ module _ (r : Record) (line : List ℕ) (decode : Bool) (payload bits : List ℕ
       (subst (λ (q : Parsed). Place (kindOf s) (joinChecks r (fragmentOf s) (ownOf line s)) (numberIn (checked (sentenceChecks r line decode q) (taken (progressOf (kindOf s)))))) (sym e) place-sentence)
 
   module _ (n : ℕ) (t : numberIn ((calledOf r line decode payload bits) .told) ≡ n) where
-    number : numberIn (call .told) ≡ n
-    number = sym (ap (λ (c : Called). numberIn (c .told)) its-call) ∙ t
+    number : numberIn (callAs r line decode payload bits s .told) ≡ n
+    number = sym (ap (λ (c : Called). numberIn (c .told)) (called-as r line decode payload bits s e)) ∙ t
 
     after-by : (calledOf r line decode payload bits) .after ≡ leftBy r (kindOf s) (joinedOf r s (ownOf line s)) n
-    after-by = ap (λ (c : Called). c .after) its-call ∙ ap (leftBy r (kindOf s) (joinedOf r s (ownOf line s))) number
+    after-by = ap (λ (c : Called). c .after) (called-as r line decode payload bits s e) ∙ ap (leftBy r (kindOf s) (joinedOf r s (ownOf line s))) number
 
     -- "Refusals 12 and 1 to 5 leave the record as found." Here 12 and 1 to 3
     pub left-early : Early n → (calledOf r line decode payload bits) .after ≡ r

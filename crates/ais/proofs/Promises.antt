@@ -20,6 +20,7 @@ use Rattle.reassembly.specs.declared.Part.{Part}
 use Rattle.reassembly.specs.declared.Record.{Record}
 use Rattle.reassembly.proofs.Laws.{handed-joined}
 use Rattle.ais.specs.Sentence.{heardOf}
+use Rattle.ais.proofs.Called.{callAs, called-as}
 use Rattle.ais.specs.Call.{Progress, complete, fragmentOf, ownOf, kindOf, progressOf, joinedOf, handedBy, handedOf, decodes, noRoom, lineTooLong, lineBroken, badChecksum, sentenceChecks, checksOf, doneBy, leftBy, callBy, Called, calledOf}
 use Rattle.ais.proofs.Received.{none-done, last-room, last-after}
 
@@ -80,13 +81,6 @@ passed-first (c ∷ before) after p = (p .0, passed-first before after (p .1))
 
 -- a line that keeps the line rules
 module _ (r : Record) (line : List ℕ) (decode : Bool) (payload bits : List ℕ) (s : AisSentence) (e : parsedOf line ≡ Parsed.Sentence s) where
-  abbrev call : Called
-  call = callBy (checksOf r line decode (length payload) (length bits)) r line decode (Parsed.Sentence s) payload bits
-
-  its-call : calledOf r line decode payload bits ≡ call
-  unfolding calledOf
-  its-call = ap (λ (p : Parsed). callBy (checksOf r line decode (length payload) (length bits)) r line decode p payload bits) e
-
   alone-left : kindOf s ≡ Part.Alone → (n : ℕ) → leftBy r (kindOf s) (joinedOf r s (ownOf line s)) n ≡ r
   unfolding joinOf
   alone-left k n =
@@ -94,14 +88,14 @@ module _ (r : Record) (line : List ℕ) (decode : Bool) (payload bits : List ℕ
 
   -- "complete alone; the record stays." "For a line complete alone every refusal leaves the record untouched."
   pub alone-untouched : kindOf s ≡ Part.Alone → (calledOf r line decode payload bits) .after ≡ r
-  alone-untouched k = ap (λ (c : Called). c .after) its-call ∙ alone-left k (numberIn (call .told))
+  alone-untouched k = ap (λ (c : Called). c .after) (called-as r line decode payload bits s e) ∙ alone-left k (numberIn (callAs r line decode payload bits s .told))
 
   module _ (p : Progress) (t : (calledOf r line decode payload bits) .told ≡ taken p) where
-    its-taken : call .told ≡ taken p
-    its-taken = sym (ap (λ (c : Called). c .told) its-call) ∙ t
+    its-taken : callAs r line decode payload bits s .told ≡ taken p
+    its-taken = sym (ap (λ (c : Called). c .told) (called-as r line decode payload bits s e)) ∙ t
 
     heard-taken : (calledOf r line decode payload bits) .sentence ≡ heardOf s (handedOf r s (ownOf line s))
-    heard-taken = ap (λ (c : Called). c .sentence) its-call ∙ rw its-taken
+    heard-taken = ap (λ (c : Called). c .sentence) (called-as r line decode payload bits s e) ∙ rw its-taken
 
     -- "the count of sent bits (6 times the length of the payload handed out, less fill)"
     pub sent-bits : (calledOf r line decode payload bits) .sentence .«sent_bits» ≡ length (handedOf r s (ownOf line s)) * 6 - s .«fill_bit_count»
@@ -109,7 +103,7 @@ module _ (r : Record) (line : List ℕ) (decode : Bool) (payload bits : List ℕ
 
     -- "On success the payload buffer's first bytes hold the payload .. All further bytes stay."
     pub payload-taken : (calledOf r line decode payload bits) .payload ≡ over (handedOf r s (ownOf line s)) payload
-    payload-taken = ap (λ (c : Called). c .payload) its-call ∙ rw its-taken
+    payload-taken = ap (λ (c : Called). c .payload) (called-as r line decode payload bits s e) ∙ rw its-taken
 
     joins-passed : Passed (joinChecks r (fragmentOf s) (ownOf line s))
     joins-passed =
@@ -130,7 +124,7 @@ module _ (r : Record) (line : List ℕ) (decode : Bool) (payload bits : List ℕ
 
       pub last-emptied : (calledOf r line decode payload bits) .after ≡ emptyAs (r .number) (s .«fragment_number»)
       last-emptied =
-          ap (λ (c : Called). c .after) its-call
+          ap (λ (c : Called). c .after) (called-as r line decode payload bits s e)
           ∙ ap (λ (q : Told Progress). leftBy r (kindOf s) (joinedOf r s (ownOf line s)) (numberIn q)) its-taken
           ∙ none-done r (kindOf s) (joinedOf r s (ownOf line s))
           ∙ ap (λ (q : Part). doneBy q (joinedOf r s (ownOf line s))) k

@@ -5,7 +5,7 @@ use mathlib.Core.Bool.{Bool, true, false, not, _&&_, _||_}
 use mathlib.Core.List.{List, [], _∷_, _++_}
 use lib.Dec.{ltb, eqb}
 use lib.ListN.{length, take, drop}
-use Rattle.refusal.specs.Words.{pick, within, Told, taken, refused, numberIn, Check, check, checked, onTaken, left}
+use Rattle.refusal.specs.Words.{pick, within, Told, taken, numberIn, Check, check, checked, onTaken, left}
 use Rattle.refusal.specs.Refusal.{told}
 use Rattle.armour.specs.Armour.{unarmored}
 use Rattle.messages.specs.Messages.{noMessage, messageBy, typeOf}

@@ -22,7 +22,7 @@ use Rattle.messages.specs.Messages.{Reading, outcomeIn, typeOf, messageBy, deco
 use Rattle.messages.specs.Messages as read
 use Rattle.messages.specs.declared.Decoded.{Decoded}
 use Rattle.messages.specs.declared.Outcome.the-variants as outcome
-use Rattle.opening.specs.Opening.{openChecks, decodedOf, openedOf, refusedAs, Opens}
+use Rattle.opening.specs.Opening.{decodedOf, openedOf, refusedAs, Opens}
 use Rattle.opening.specs.declared.Opened.{Opened}
 
 -- a refusal writes nothing, and its answer is one value
