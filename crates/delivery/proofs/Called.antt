@@ -1,0 +1,115 @@
+-- The calls of `ais` on lines of ours: each is the record's step on the line, so they are a reader of demand 3. Assumes nothing.
+use Prim.Native.Nat.{ℕ, _+_, _≤_}
+use native.Mathlib.Omega.{arith}
+use mathlib.Core.Path.{_≡_, refl, sym, ap, ap₂, _∙_}
+use mathlib.Core.Bool.{false}
+use mathlib.Core.List.{List}
+use lib.ListN.{length, take, drop, replicate}
+use lib.Seq.{take-append-seam}
+use Rattle.refusal.specs.Words.{Told, taken, over}
+use Rattle.refusal.specs.Refusal.{told, rowOf}
+use Rattle.refusal.specs.declared.Refusal.{Refusal}
+use Rattle.messages.specs.Messages.{noMessage}
+use Rattle.sentence.specs.Written.{lineText, Writable}
+use Rattle.sentence.specs.declared.Number.{Number}
+use Rattle.sentence.proofs.ReadBack.{read-back, payload-back, text-short}
+use Rattle.reassembly.specs.Record.{emptyAs, freshRecord, emptiedOf, joinOf}
+use Rattle.reassembly.specs.declared.Record.{Record}
+use Rattle.reassembly.specs.declared.Fragment.{Fragment}
+use Rattle.reassembly.specs.declared.Part.{Part}
+use Rattle.reassembly.specs.declared.Outcome as joining
+use Rattle.ais.specs.Call.{Called, fragmentOf}
+use Rattle.ais.specs.Parts.{refusedAs, takenAs, receivedOf}
+use Rattle.ais.specs.declared.Outcome.{Outcome}
+use Rattle.ais.proofs.Called.{to-received}
+use Rattle.ais.proofs.Received.{receive-refused, receive-unfinished, receive-alone, receive-last}
+use Rattle.writer.specs.Message.{Message, Sendable, linesIn, partsOf, textOf}
+use Rattle.writer.proofs.Sendable.{writable}
+use Rattle.delivery.specs.Delivery.{Answer, unfinished, complete}
+use Rattle.delivery.specs.Calls as calls
+use Rattle.delivery.specs.Calls.{Lent, answerIn, onCall}
+use Rattle.delivery.proofs.Reader.{Reader, line, gives}
+use Rattle.delivery.proofs.Lines.{own, said, fragment, single, all-lines, own-short, own-is, of-several, last-fill, of-single}
+use Rattle.delivery.proofs.Holding.{heldOf, holding, held-last, join-single, join-first, join-next, join-last, join-out-of-turn, join-other, join-fresh}
+
+-- what the caller reads off a call, and the record after it
+abbrev seen : Called → calls.Outcome Record
+seen c = gives (answerIn c) (c .after)
+
+-- what stands first in a buffer is read off it again
+pub handed-read : (xs buffer : List ℕ) (fill : ℕ) (after : Record) → gives (complete (take (length xs) (over xs buffer)) fill) after ≡ gives (complete xs fill) after
+handed-read xs buffer fill after = ap (λ (ys : List ℕ). gives (complete ys fill) after) (take-append-seam xs (drop (length xs) buffer))
+
+-- a line of ours, with large buffers lent: what is seen is the record's step on its sentence and its payload
+module _ (lent : ℕ → Lent) (p : ℕ) (r : Record) (m : Message) (s : Sendable m) (i : ℕ) (h : 1 ≤ i) (l : i ≤ linesIn m) where
+  w : Writable (partsOf m i)
+  w = writable m s i h l
+
+  short : length (lineText (partsOf m i)) ≤ 1024
+  short = omega (arith, text-short (partsOf m i) w, ap length (own-is m i), own-short m i)
+
+  call-is : onCall lent p r (line m i) ≡ seen (receivedOf r (said m i) (own m i) false (lent p .payload) (lent p .bits))
+  unfolding onCall textOf
+  call-is =
+      let payload = lent p .payload in
+      let bits = lent p .bits in
+      ap seen
+      (sym (to-received r (lineText (partsOf m i)) false payload bits (lent p .payload-large) (lent p .bits-large) short (said m i) (read-back (partsOf m i) w) refl)
+      ∙ ap (λ (xs : List ℕ). receivedOf r (said m i) xs false payload bits) (payload-back (partsOf m i) w ∙ own-is m i))
+
+  -- the ways out, by what the record's rules make of the line
+  module _ (f : Fragment) (e : fragmentOf (said m i) ≡ f) (after : Record) where
+    its-join : (t : Told Part) → joinOf r f (own m i) ≡ record { told = t; after = after } → record { told = t; after = after } ≡ joinOf r (fragmentOf (said m i)) (own m i)
+    its-join t q = sym (rw e q)
+
+    to-refused : (refusal : Refusal) → joinOf r f (own m i) ≡ record { told = told refusal; after = after } → onCall lent p r (line m i) ≡ gives (Answer.refused (rowOf refusal .number)) after
+    to-refused refusal q =
+        call-is
+        ∙ ap seen (sym (receive-refused r (said m i) (own m i) (record { outcome = joining.Outcome.Refused refusal; state = after }) (its-join (told refusal) q)
+        false (lent p .payload) (lent p .bits) (refusedAs after refusal) refusal refl refl))
+
+    pub to-unfinished : joinOf r f (own m i) ≡ record { told = taken Part.Unfinished; after = after } → onCall lent p r (line m i) ≡ gives unfinished after
+    to-unfinished q =
+        call-is
+        ∙ ap seen (sym (receive-unfinished r (said m i) (own m i) (record { outcome = joining.Outcome.Taken Part.Unfinished; state = after }) (its-join (taken Part.Unfinished) q)
+        false (lent p .payload) (over (own m i) (lent p .payload)) (lent p .bits) (takenAs after Outcome.Unfinished (said m i) (own m i) noMessage) noMessage refl refl refl refl))
+
+    pub to-last : joinOf r f (own m i) ≡ record { told = taken Part.Last; after = after }
+        → onCall lent p r (line m i) ≡ gives (complete (take (after .len) (after .bytes)) (said m i .«fill_bit_count»)) (emptiedOf after)
+    to-last q =
+        call-is
+        ∙ ap seen (sym (receive-last r (said m i) (own m i) (record { outcome = joining.Outcome.Taken Part.Last; state = after }) (its-join (taken Part.Last) q) refl false (lent p .payload) (lent p .bits) (emptiedOf after) refl))
+        ∙ handed-read (take (after .len) (after .bytes)) (lent p .payload) (said m i .«fill_bit_count») (emptiedOf after)
+
+    to-alone : joinOf r f (own m i) ≡ record { told = taken Part.Alone; after = after } → onCall lent p r (line m i) ≡ gives (complete (own m i) (said m i .«fill_bit_count»)) after
+    to-alone q =
+        call-is
+        ∙ ap seen (sym (receive-alone r (said m i) (own m i) (record { outcome = joining.Outcome.Taken Part.Alone; state = after }) (its-join (taken Part.Alone) q) false (lent p .payload) (lent p .bits) refl))
+        ∙ handed-read (own m i) (lent p .payload) (said m i .«fill_bit_count») after
+
+-- what is seen of a last line
+module _ (m : Message) (i : ℕ) where
+  last-seen : i ≡ linesIn m → gives (complete (take (length (m .payload)) (over (m .payload) (replicate 384 0))) (said m i .«fill_bit_count»)) (emptyAs (Number.Of (m .number)) i)
+      ≡ gives (complete (m .payload) (m .fill)) (heldOf m i)
+  last-seen e =
+      handed-read (m .payload) (replicate 384 0) (said m i .«fill_bit_count») (emptyAs (Number.Of (m .number)) i)
+      ∙ ap₂ (λ (fill : ℕ) (r : Record). gives (complete (m .payload) fill) r) (last-fill m i e) (sym (held-last m i e))
+
+pub reads : (lent : ℕ → Lent) → Reader (onCall lent) freshRecord
+reads lent = record {
+  held = heldOf;
+  alone = λ m s p r e. to-alone lent p r m s 1 (omega arith) (omega arith) single (of-single m e) r (join-single m r) ∙ rw (all-lines m 1 (sym e), last-fill m 1 (sym e));
+  first = λ m s p r h. to-unfinished lent p r m s 1 (omega arith) (omega arith) (fragment m 1) (of-several m 1 h) (heldOf m 1) (join-first m s h r);
+  next = λ m s p j h l.
+      to-unfinished lent p (heldOf m j) m s (j + 1) (omega arith) (omega arith) (fragment m (j + 1)) (of-several m (j + 1) (omega arith)) (heldOf m (j + 1)) (join-next m s (omega arith) j h l);
+  last = λ m s p j h e.
+      to-last lent p (heldOf m j) m s (j + 1) (omega arith) (omega arith) (fragment m (j + 1)) (of-several m (j + 1) (omega arith))
+      (holding (Number.Of (m .number)) (j + 1) (m .payload)) (join-last m s (omega arith) j h e)
+      ∙ last-seen m (j + 1) e;
+  out-of-turn = λ m s p j i h l d.
+      to-refused lent p (heldOf m j) m s i (omega arith) l (fragment m i) (of-several m i (omega arith)) (heldOf m j) Refusal.FragmentNumber (join-out-of-turn m s (omega arith) j i h l d);
+  other-number = λ m s k p j i h l d.
+      to-refused lent p (heldOf k j) m s i (omega arith) l (fragment m i) (of-several m i (omega arith)) (heldOf k j) Refusal.MessageNumber (join-other m s (omega arith) k j i h l d);
+  at-fresh = λ m s p i h l.
+      to-refused lent p freshRecord m s i (omega arith) l (fragment m i) (of-several m i (omega arith)) freshRecord Refusal.MessageNumber (join-fresh m s (omega arith) i h l);
+}

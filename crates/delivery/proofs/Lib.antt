@@ -1,0 +1,12 @@
+pub mod Lines
+pub mod Reader
+pub mod Turns
+pub mod Safe
+pub mod Delivered
+pub mod Numbered
+pub mod Holding
+pub mod Called
+pub mod InOrder
+pub mod Accepted
+pub mod RoundTrip
+pub mod Mixed

@@ -1,0 +1,3 @@
+pub mod Delivery
+pub mod Calls
+pub mod RoundTrip

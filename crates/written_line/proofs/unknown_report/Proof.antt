@@ -1,0 +1,18 @@
+-- `unknown_report` meets its contract. Assumes nothing.
+use Rattle.written_line.proofs.Letters.{none-told}
+use Rattle.sentence.specs.Written.{reportText}
+use borrow.Author.Needs.{needs}
+use Rattle.written_line.proofs.unknown_report.Statement.{statement}
+use Rattle.written_line.proofs.unknown_report.Tie as tie
+
+report-letters-requires : tie.Need-report-letters-requires
+report-letters-requires c κs = search needs
+
+array-read-result : tie.Need-array-read-result
+array-read-result c = search needs
+
+returns : tie.Need-returns
+returns c = none-told (reportText (c .before .args .report)) (c .report-letters .result) (c .report-letters .ensures) (search needs)
+
+pub unknown-report-spec : {M : Type 1} → statement M
+unknown-report-spec = tie.close (tie.spec report-letters-requires array-read-result returns)

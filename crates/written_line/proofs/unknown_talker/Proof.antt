@@ -1,0 +1,18 @@
+-- `unknown_talker` meets its contract. Assumes nothing.
+use Rattle.written_line.proofs.Letters.{none-told}
+use Rattle.sentence.specs.Written.{talkerText}
+use borrow.Author.Needs.{needs}
+use Rattle.written_line.proofs.unknown_talker.Statement.{statement}
+use Rattle.written_line.proofs.unknown_talker.Tie as tie
+
+talker-letters-requires : tie.Need-talker-letters-requires
+talker-letters-requires c κs = search needs
+
+array-read-result : tie.Need-array-read-result
+array-read-result c = search needs
+
+returns : tie.Need-returns
+returns c = none-told (talkerText (c .before .args .talker)) (c .talker-letters .result) (c .talker-letters .ensures) (search needs)
+
+pub unknown-talker-spec : {M : Type 1} → statement M
+unknown-talker-spec = tie.close (tie.spec talker-letters-requires array-read-result returns)
