@@ -1,0 +1,97 @@
+-- `asked_request::ask_further_talker` meets its contract. Assumes nothing.
+use mathlib.Core.Path.{sym, _∙_}
+use Rattle.asked_request.specs.Asked.{furtherTalker}
+use borrow.Author.Needs.{needs}
+use Rattle.asked_request.proofs.ask_further_talker.Statement.{statement}
+use Rattle.asked_request.proofs.ask_further_talker.Tie as tie
+use Rattle.asked_request.proofs.ask_further_talker.Reads as reads
+use Rattle.asked_request.proofs.ask_further_talker.Lts as lts
+use Rattle.words.proofs.named.Reads as named-reads
+
+slice-aggregate-named : tie.Need-slice-aggregate-named
+slice-aggregate-named c = search needs
+
+named-requires : tie.Need-named-requires
+named-requires c κs = search needs
+
+returns : tie.Need-returns
+unfolding furtherTalker
+returns c = rw (sym (c .before .named .ensures) ∙ c .if1 .taken)
+
+slice-aggregate-named-2 : tie.Need-slice-aggregate-named-2
+slice-aggregate-named-2 c = search needs
+
+named-requires-2 : tie.Need-named-requires-2
+named-requires-2 c κs = search needs
+
+returns-2 : tie.Need-returns-2
+unfolding furtherTalker
+returns-2 c = rw (sym (c .before .before .before .before .named .ensures) ∙ c .before .before .before .if1 .left, sym (c .before .named2 .ensures) ∙ c .if2 .taken)
+
+slice-aggregate-named-3 : tie.Need-slice-aggregate-named-3
+slice-aggregate-named-3 c = search needs
+
+named-requires-3 : tie.Need-named-requires-3
+named-requires-3 c κs = search needs
+
+returns-3 : tie.Need-returns-3
+unfolding furtherTalker
+returns-3 c = rw (sym (c .before .before .before .before .before .before .before .named .ensures) ∙ c .before .before .before .before .before .before .if1 .left, sym (c .before .before .before .before .named2 .ensures) ∙ c .before .before .before .if2 .left, sym (c .before .named3 .ensures) ∙ c .if3 .taken)
+
+slice-aggregate-named-4 : tie.Need-slice-aggregate-named-4
+slice-aggregate-named-4 c = search needs
+
+named-requires-4 : tie.Need-named-requires-4
+named-requires-4 c κs = search needs
+
+returns-4 : tie.Need-returns-4
+unfolding furtherTalker
+returns-4 c = rw (sym (c .before .before .before .before .before .before .before .before .before .before .named .ensures) ∙ c .before .before .before .before .before .before .before .before .before .if1 .left, sym (c .before .before .before .before .before .before .before .named2 .ensures) ∙ c .before .before .before .before .before .before .if2 .left, sym (c .before .before .before .before .named3 .ensures) ∙ c .before .before .before .if3 .left, sym (c .before .named4 .ensures) ∙ c .if4 .taken)
+
+slice-aggregate-named-5 : tie.Need-slice-aggregate-named-5
+slice-aggregate-named-5 c = search needs
+
+named-requires-5 : tie.Need-named-requires-5
+named-requires-5 c κs = search needs
+
+returns-5 : tie.Need-returns-5
+unfolding furtherTalker
+returns-5 c = rw (sym (c .before .before .before .before .before .before .before .before .before .before .before .before .before .named .ensures) ∙ c .before .before .before .before .before .before .before .before .before .before .before .before .if1 .left, sym (c .before .before .before .before .before .before .before .before .before .before .named2 .ensures) ∙ c .before .before .before .before .before .before .before .before .before .if2 .left, sym (c .before .before .before .before .before .before .before .named3 .ensures) ∙ c .before .before .before .before .before .before .if3 .left, sym (c .before .before .before .before .named4 .ensures) ∙ c .before .before .before .if4 .left, sym (c .before .named5 .ensures) ∙ c .if5 .taken)
+
+slice-aggregate-named-6 : tie.Need-slice-aggregate-named-6
+slice-aggregate-named-6 c = search needs
+
+named-requires-6 : tie.Need-named-requires-6
+named-requires-6 c κs = search needs
+
+returns-6 : tie.Need-returns-6
+unfolding furtherTalker
+returns-6 c = rw (sym (c .before .before .before .before .before .before .before .before .before .before .before .before .before .before .before .before .named .ensures) ∙ c .before .before .before .before .before .before .before .before .before .before .before .before .before .before .before .if1 .left, sym (c .before .before .before .before .before .before .before .before .before .before .before .before .before .named2 .ensures) ∙ c .before .before .before .before .before .before .before .before .before .before .before .before .if2 .left, sym (c .before .before .before .before .before .before .before .before .before .before .named3 .ensures) ∙ c .before .before .before .before .before .before .before .before .before .if3 .left, sym (c .before .before .before .before .before .before .before .named4 .ensures) ∙ c .before .before .before .before .before .before .if4 .left, sym (c .before .before .before .before .named5 .ensures) ∙ c .before .before .before .if5 .left, sym (c .before .named6 .ensures) ∙ c .if6 .taken)
+
+returns-7 : tie.Need-returns-7
+unfolding furtherTalker
+returns-7 c = rw (sym (c .before .before .before .before .before .before .before .before .before .before .before .before .before .before .before .before .named .ensures) ∙ c .before .before .before .before .before .before .before .before .before .before .before .before .before .before .before .if1 .left, sym (c .before .before .before .before .before .before .before .before .before .before .before .before .before .named2 .ensures) ∙ c .before .before .before .before .before .before .before .before .before .before .before .before .if2 .left, sym (c .before .before .before .before .before .before .before .before .before .before .named3 .ensures) ∙ c .before .before .before .before .before .before .before .before .before .if3 .left, sym (c .before .before .before .before .before .before .before .named4 .ensures) ∙ c .before .before .before .before .before .before .if4 .left, sym (c .before .before .before .before .named5 .ensures) ∙ c .before .before .before .if5 .left, sym (c .before .named6 .ensures) ∙ c .if6 .left)
+
+pub ask-further-talker-spec : {M : Type 1} → statement M
+ask-further-talker-spec =
+    tie.close
+    (tie.spec
+    slice-aggregate-named
+    named-requires
+    returns
+    slice-aggregate-named-2
+    named-requires-2
+    returns-2
+    slice-aggregate-named-3
+    named-requires-3
+    returns-3
+    slice-aggregate-named-4
+    named-requires-4
+    returns-4
+    slice-aggregate-named-5
+    named-requires-5
+    returns-5
+    slice-aggregate-named-6
+    named-requires-6
+    returns-6
+    returns-7)

@@ -1,0 +1,58 @@
+-- `asked_request::ask_report` meets its contract. Assumes nothing.
+use mathlib.Core.Path.{sym, _∙_}
+use Rattle.asked_request.specs.Asked.{reportAsked}
+use borrow.Author.Needs.{needs}
+use Rattle.asked_request.proofs.ask_report.Statement.{statement}
+use Rattle.asked_request.proofs.ask_report.Tie as tie
+use Rattle.asked_request.proofs.ask_report.Reads as reads
+use Rattle.asked_request.proofs.ask_report.Lts as lts
+use Rattle.words.proofs.named.Reads as named-reads
+
+slice-aggregate-named : tie.Need-slice-aggregate-named
+slice-aggregate-named c = search needs
+
+named-requires : tie.Need-named-requires
+named-requires c κs = search needs
+
+returns : tie.Need-returns
+unfolding reportAsked
+returns c = rw (sym (c .before .named .ensures) ∙ c .if1 .taken)
+
+slice-aggregate-named-2 : tie.Need-slice-aggregate-named-2
+slice-aggregate-named-2 c = search needs
+
+named-requires-2 : tie.Need-named-requires-2
+named-requires-2 c κs = search needs
+
+returns-2 : tie.Need-returns-2
+unfolding reportAsked
+returns-2 c = rw (sym (c .before .before .before .before .named .ensures) ∙ c .before .before .before .if1 .left, sym (c .before .named2 .ensures) ∙ c .if2 .taken)
+
+slice-aggregate-named-3 : tie.Need-slice-aggregate-named-3
+slice-aggregate-named-3 c = search needs
+
+named-requires-3 : tie.Need-named-requires-3
+named-requires-3 c κs = search needs
+
+returns-3 : tie.Need-returns-3
+unfolding reportAsked
+returns-3 c = rw (sym (c .before .before .before .before .before .before .before .named .ensures) ∙ c .before .before .before .before .before .before .if1 .left, sym (c .before .before .before .before .named2 .ensures) ∙ c .before .before .before .if2 .left, sym (c .before .named3 .ensures) ∙ c .if3 .taken)
+
+returns-4 : tie.Need-returns-4
+unfolding reportAsked
+returns-4 c = rw (sym (c .before .before .before .before .before .before .before .named .ensures) ∙ c .before .before .before .before .before .before .if1 .left, sym (c .before .before .before .before .named2 .ensures) ∙ c .before .before .before .if2 .left, sym (c .before .named3 .ensures) ∙ c .if3 .left)
+
+pub ask-report-spec : {M : Type 1} → statement M
+ask-report-spec =
+    tie.close
+    (tie.spec
+    slice-aggregate-named
+    named-requires
+    returns
+    slice-aggregate-named-2
+    named-requires-2
+    returns-2
+    slice-aggregate-named-3
+    named-requires-3
+    returns-3
+    returns-4)
