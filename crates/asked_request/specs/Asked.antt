@@ -6,7 +6,7 @@ use Rattle.refusal.specs.Words.{pick}
 use Rattle.text_out.specs.Text.{ascii}
 use Rattle.words.specs.Line.{wordAt, countOf, sameAs}
 use Rattle.words.specs.Numbers.{numberOf}
-use Rattle.words.specs.declared.Number as word
+use Rattle.commands.specs.Asked.{withNumber}
 use Rattle.sentence.specs.declared.TalkerId.{TalkerId}
 use Rattle.sentence.specs.declared.AisReportType.{AisReportType}
 use Rattle.sentence.specs.declared.Channel.{Channel}
@@ -17,11 +17,7 @@ use Rattle.asked_request.specs.declared.Report.{Report}
 use Rattle.asked_request.specs.declared.Way.{Way}
 use Rattle.asked_request.specs.declared.Wanted.{Wanted}
 
--- what is asked with a word that is to be a number, a talker, a report type, a channel
-abbrev pub withNumber : {A : Type 0} → word.Number → (ℕ → A) → A → A
-withNumber (word.Number.Of n) ask none = ask n
-withNumber word.Number.Bad ask none = none
-
+-- a word that is to be a talker, a report type, a channel: what is asked with it
 abbrev pub withTalker : Talker → (TalkerId → Wanted) → Wanted
 withTalker (Talker.Of t) ask = ask t
 withTalker Talker.Bad ask = Wanted.Bad
@@ -69,23 +65,23 @@ channelAsked w =
     pick (sameAs w (ascii "-")) (Way.Of Channel.Absent)
     (pick (sameAs w (ascii "A")) (Way.Of (Channel.Of 65))
     (pick (sameAs w (ascii "B")) (Way.Of (Channel.Of 66))
-    (withNumber (numberOf w) (λ byte. pick (leb byte 255) (Way.Of (Channel.Of byte)) Way.Bad) Way.Bad)))
+    (withNumber (numberOf w) Way.Bad (λ byte. pick (leb byte 255) (Way.Of (Channel.Of byte)) Way.Bad))))
 
 -- "COUNT bits"; "NUMBER 0 to 255"
 unfoldable pub requestAsked : List ℕ → Wanted
 requestAsked line =
-    withNumber (numberOf (wordAt 1 line)) (λ count.
+    withNumber (numberOf (wordAt 1 line)) Wanted.Bad (λ count.
     withTalker (talkerAsked (wordAt 2 line)) (λ talker.
     withReport (reportAsked (wordAt 3 line)) (λ report.
     withChannel (channelAsked (wordAt 4 line)) (λ channel.
-    withNumber (numberOf (wordAt 5 line)) (λ number.
+    withNumber (numberOf (wordAt 5 line)) Wanted.Bad (λ number.
     pick (leb number 255)
     (Wanted.Of (record { count = count; «talker_id» = talker; «report_type» = report; channel = channel; «message_id» = number }))
-    Wanted.Bad) Wanted.Bad)))) Wanted.Bad
+    Wanted.Bad)))))
 
 -- the numbers of `write COUNT TALKER REPORT CHANNEL NUMBER ROOM BYTES`, ROOM at most 1,024
 unfoldable pub writeAsked : List ℕ → Asked
 writeAsked line =
     pick (eqb (countOf line) 8)
-    (withRequest (requestAsked line) (λ q. withNumber (numberOf (wordAt 6 line)) (λ room. pick (leb room 1024) (Asked.Of q room) Asked.Bad) Asked.Bad))
+    (withRequest (requestAsked line) (λ q. withNumber (numberOf (wordAt 6 line)) Asked.Bad (λ room. pick (leb room 1024) (Asked.Of q room) Asked.Bad)))
     Asked.Bad

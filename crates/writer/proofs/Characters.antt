@@ -1,7 +1,9 @@
 -- The characters of a payload, each from its six bits. Assumes nothing.
 use mathlib.Core.Path.{_≡_, sym, ap, _∙_}
 use mathlib.Core.List.{List}
-use Prim.Native.Nat.{ℕ, _+_, _*_, _/_, _^_, _≤_, _<_}
+use Prim.Native.Nat.{ℕ, _+_, _*_, _/_, _%_, _^_, _≤_, _<_}
+use native.Mathlib.Nat.{div-mul-le-self}
+use native.Mathlib.Omega.{arith}
 use lib.ListN.{length, getD}
 use Rattle.parsers.specs.Bits.{val, bitAt, cut, pack}
 use Rattle.parsers.specs.Field.{fieldOf}
@@ -27,3 +29,7 @@ module _ (d : List ℕ) (n i : ℕ) (here : i < charsIn n) where
   pub char-last : (e : ℕ) → e ≤ 6 → n + e ≡ i * 6 + 6 → letter (fieldOf d (i * 6) 6 / 2 ^ e * 2 ^ e) ≡ getD (armoured d n) i 0
   unfolding fieldOf
   char-last e l h = sym (char-is ∙ ap letter (cut-last n (bitAt 8 d) (bit-lt 8 d) (i * 6) 6 e l h))
+
+-- six bits of which the last are cleared are six bits
+pub cleared-small : (v p : ℕ) → v < 64 → v / p * p % 2 ^ 8 < 64
+cleared-small v p h = omega (arith, div-mul-le-self v p)

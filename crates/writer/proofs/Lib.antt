@@ -1,6 +1,6 @@
 pub mod Armoured
 pub mod Sendable
-pub mod Limits
+pub mod Tests
 pub mod Characters
 pub mod Lines
 pub mod Lengths

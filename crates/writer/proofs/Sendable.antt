@@ -31,14 +31,14 @@ channel-in Channel.Absent e = tt
 channel-in (Channel.Of b) e = range-in 65 66 b (not-false (within 65 66 b) e)
 
 module _ (q : Request) (d : List ℕ) (inside : outside q d ≡ false) where
-  record Limits : Type 0 where
-    count : badCount (q .count) d ≡ false
-    talker : unknown (talkerText (q .«talker_id»)) ≡ false
-    report : unknown (reportText (q .«report_type»)) ≡ false
-    channel : otherChannel (q .channel) ≡ false
-    number : ltb 9 (q .«message_id») ≡ false
+  pub record Limits : Type 0 where
+    pub count : badCount (q .count) d ≡ false
+    pub talker : unknown (talkerText (q .«talker_id»)) ≡ false
+    pub report : unknown (reportText (q .«report_type»)) ≡ false
+    pub channel : otherChannel (q .channel) ≡ false
+    pub number : ltb 9 (q .«message_id») ≡ false
 
-  limits : Limits
+  pub limits : Limits
   unfolding outside
   limits =
       let a = neither (badCount (q .count) d) _ inside in

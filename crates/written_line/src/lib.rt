@@ -1,5 +1,4 @@
 // What a line of ours is made of, beside its numbers and its payload: talker and report type, channel, checksum and line end.
-// A line that another crate writes, with its own start mark and its own fields, is closed the same way.
 use sentence::AisReportType;
 use sentence::Channel;
 use sentence::TalkerId;

@@ -3,7 +3,7 @@ use native.Mathlib.Omega.{arith}
 use Prim.Native.Nat.{_+_, _*_, _/_}
 use lib.ListN.{length}
 use Rattle.refusal.proofs.Within.{in-range, below-range, above-range}
-use Rattle.writer.proofs.Limits.{same-test}
+use Rattle.writer.proofs.Tests.{same-test}
 use borrow.Author.Needs.{needs}
 use Rattle.writer.proofs.bad_count.Statement.{statement}
 use Rattle.writer.proofs.bad_count.Tie as tie

@@ -4,7 +4,7 @@ use mathlib.Core.Path.{ap, _∙_}
 use native.Mathlib.Nat.{mod-eq-of-lt, div-mul-le-self}
 use native.Mathlib.Omega.{arith}
 use Rattle.armour.specs.Armour.{letter}
-use Rattle.writer.proofs.Characters.{char-whole, char-last}
+use Rattle.writer.proofs.Characters.{char-whole, char-last, cleared-small}
 use borrow.Author.Needs.{needs}
 use Rattle.writer.proofs.char_at.Statement.{statement}
 use Rattle.writer.proofs.char_at.Tie as tie
@@ -40,11 +40,7 @@ shl-letter-of : tie.Need-shl-letter-of
 shl-letter-of c = search needs
 
 letter-of-requires : tie.Need-letter-of-requires
-letter-of-requires c κs =
-    let s = c .before .before .before .args in
-    let v = c .before .field .result in
-    let p = 2 ^ (6 - (s .count - s .i * 6)) in
-    omega (arith, div-mul-le-self v p)
+letter-of-requires c κs = cleared-small _ _ (c .before .field .ensures .fits)
 
 returns : tie.Need-returns
 returns c =

@@ -1,7 +1,7 @@
 -- `other_channel` meets its contract. Assumes nothing.
 use borrow.Author.Tests.{lt-ltb}
 use Rattle.refusal.proofs.Within.{below-range}
-use Rattle.writer.proofs.Limits.{only-above}
+use Rattle.writer.proofs.Tests.{only-above}
 use borrow.Author.Needs.{needs}
 use Rattle.writer.proofs.other_channel.Statement.{statement}
 use Rattle.writer.proofs.other_channel.Tie as tie
