@@ -1,13 +1,10 @@
 // The commands of the comparing protocol that have nothing to do with the record: `unarmor`, `decode` and `write`.
 use armour::Unarmored;
-use asked_request::Asked;
 use commands::Unarmor;
 use words::Filled;
-use writer::Request;
-use writer::Written;
 ghost use mathlib.Core.Path.{_≡_};
 ghost use Rattle.text_out.specs.Text.{text, put};
-ghost use Rattle.alone.specs.Alone.{bad, unarmorShown, unarmorSaid, decodeSaid, writeShown, writeSaid, aloneSaid};
+ghost use Rattle.alone.specs.Alone.{unarmorShown, unarmorSaid, decodeSaid, aloneSaid};
 
 // The answer to a command line, by its first word.
 pub fn answer(line: &[u8], out: &mut [u8], at: usize) -> usize
@@ -20,16 +17,9 @@ pub fn answer(line: &[u8], out: &mut [u8], at: usize) -> usize
         return say_decode(line, out, at);
     }
     if words::named(line, 0, b"write") {
-        return say_write(line, out, at);
+        return write_command::say_write(line, out, at);
     }
-    say_bad(out, at)
-}
-
-// What is no command.
-pub fn say_bad(out: &mut [u8], at: usize) -> usize
-    ensures { λ r. ⌜ text r (now (out .exit)) ≡ put (text at (now (out .entry))) bad ⌝ }
-{
-    text_out::put_bytes(out, at, b"bad command")
+    commands::say_bad(out, at)
 }
 
 // `unarmor FILL ROOM DATA`: unarmoring alone, into ROOM bytes.
@@ -37,11 +27,11 @@ fn say_unarmor(line: &[u8], out: &mut [u8], at: usize) -> usize
     ensures { λ r. ⌜ text r (now (out .exit)) ≡ put (text at (now (out .entry))) (unarmorSaid (now (line .entry))) ⌝ }
 {
     let Unarmor::Of(fill, room) = commands::ask_unarmor(line) else {
-        return say_bad(out, at);
+        return commands::say_bad(out, at);
     };
     let mut payload = io::buffer();
     let Filled::Bytes(n) = words::bytes(line, 3, &mut payload) else {
-        return say_bad(out, at);
+        return commands::say_bad(out, at);
     };
     let k = text_out::up_to(n, &payload);
     let mut lent = show::lent();
@@ -65,40 +55,12 @@ fn say_decode(line: &[u8], out: &mut [u8], at: usize) -> usize
     ensures { λ r. ⌜ text r (now (out .exit)) ≡ put (text at (now (out .entry))) (decodeSaid (now (line .entry))) ⌝ }
 {
     if words::count(line) != 2 {
-        return say_bad(out, at);
+        return commands::say_bad(out, at);
     }
     let mut payload = io::buffer();
     let Filled::Bytes(n) = words::bytes(line, 1, &mut payload) else {
-        return say_bad(out, at);
+        return commands::say_bad(out, at);
     };
     let k = text_out::up_to(n, &payload);
     shown_message::put_decoded(out, at, &payload[..k])
-}
-
-// `write COUNT TALKER REPORT CHANNEL NUMBER ROOM BYTES`: the writer, into ROOM bytes.
-fn say_write(line: &[u8], out: &mut [u8], at: usize) -> usize
-    ensures { λ r. ⌜ text r (now (out .exit)) ≡ put (text at (now (out .entry))) (writeSaid (now (line .entry))) ⌝ }
-{
-    let Asked::Of(request, room) = asked_request::ask_write(line) else {
-        return say_bad(out, at);
-    };
-    let mut payload = io::buffer();
-    let Filled::Bytes(n) = words::bytes(line, 7, &mut payload) else {
-        return say_bad(out, at);
-    };
-    let k = text_out::up_to(n, &payload);
-    let mut lent = show::lent();
-    let m = text_out::up_to(room as usize, &lent);
-    show_write(request, &payload[..k], &mut lent[..m], out, at)
-}
-
-// Writes into a lent buffer, and shows what was given back.
-fn show_write(request: Request, bits: &[u8], lent: &mut [u8], out: &mut [u8], at: usize) -> usize
-    ensures { λ r. ⌜ text r (now (out .exit)) ≡ put (text at (now (out .entry))) (writeShown request (now (bits .entry)) (now (lent .entry))) ⌝ }
-{
-    let r = writer::write(request, bits, lent);
-    match r {
-        Written::Lines(n) => show::put_filled(out, at, b"lines ", lent, n),
-        Written::Refused(refusal) => show::put_refused(out, at, refusal, lent),
-    }
 }

@@ -1,4 +1,4 @@
--- The numbers of the comparing protocol's commands: what the words of a line ask.
+-- What the words of a line ask, by the comparing protocol. What stands in quotes is its text.
 use Prim.Native.Nat.{ℕ}
 use mathlib.Core.List.{List}
 use lib.Dec.{eqb, leb}
@@ -7,6 +7,7 @@ use Rattle.text_out.specs.Text.{ascii}
 use Rattle.words.specs.Line.{wordAt, countOf, sameAs}
 use Rattle.words.specs.Numbers.{numberOf}
 use Rattle.words.specs.declared.Number.{Number}
+use Rattle.words.specs.declared.Filled.{Filled}
 use Rattle.sentence.specs.declared.Number as message
 use Rattle.commands.specs.declared.Unarmor.{Unarmor}
 use Rattle.commands.specs.declared.Read.{Read}
@@ -54,3 +55,12 @@ lendAsked line =
     pick (eqb (countOf line) 5)
     (withId (idAsked (wordAt 1 line)) (λ number. withNumber (numberOf (wordAt 2 line)) Lend.Bad (λ fragment. withNumber (numberOf (wordAt 3 line)) Lend.Bad (λ len. pick (leb fragment 255) (Lend.Of number fragment len) Lend.Bad))))
     Lend.Bad
+
+-- "A command that is not in this form is answered `bad command`"
+abbrev pub bad : List ℕ
+bad = ascii "bad command"
+
+-- a word that is to be bytes: what is made of the command with them, and without
+abbrev pub withBytes : {A : Type 0} → Filled → A → A → A
+withBytes (Filled.Bytes n) none some = some
+withBytes Filled.Bad none some = none

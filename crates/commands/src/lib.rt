@@ -1,8 +1,9 @@
-// The numbers of a command: the words of its line, read as what is asked with it.
+// What a command asks: the words of its line, read as numbers; and what is said to a line that is no command.
 use words::Number;
 ghost use mathlib.Core.Path.{_≡_};
 ghost use Rattle.words.specs.Line.{wordAt};
-ghost use Rattle.commands.specs.Asked.{unarmorAsked, readAsked, idAsked, lendAsked};
+ghost use Rattle.commands.specs.Asked.{unarmorAsked, readAsked, idAsked, lendAsked, bad};
+ghost use Rattle.text_out.specs.Text.{text, put};
 
 // FILL and ROOM of `unarmor`.
 pub enum Unarmor {
@@ -111,4 +112,11 @@ fn ask_id(line: &[u8], k: usize) -> Id
         return Id::Bad;
     }
     Id::Of(sentence::Number::Of(n as u8))
+}
+
+// What is no command.
+pub fn say_bad(out: &mut [u8], at: usize) -> usize
+    ensures { λ r. ⌜ text r (now (out .exit)) ≡ put (text at (now (out .entry))) bad ⌝ }
+{
+    text_out::put_bytes(out, at, b"bad command")
 }

@@ -1,4 +1,4 @@
--- `alone::say_write` meets its contract. Assumes nothing.
+-- `write_command::say_write` meets its contract. Assumes nothing.
 use Prim.Native.Nat.{ℕ}
 use mathlib.Core.Path.{sym, ap, _∙_, subst}
 use mathlib.Core.List.{List}
@@ -9,10 +9,10 @@ use Rattle.words.specs.Line.{wordAt}
 use Rattle.words.specs.Hex.{filledOf, bytesOf, Fills}
 use Rattle.words.specs.declared.Filled.{Filled}
 use Rattle.words.proofs.Laws.{filled-bytes}
-use Rattle.alone.specs.Alone.{writeShown}
+use Rattle.write_command.specs.Write.{writeShown}
 use borrow.Author.Needs.{needs}
-use Rattle.alone.proofs.say_write.Statement.{statement}
-use Rattle.alone.proofs.say_write.Tie as tie
+use Rattle.write_command.proofs.say_write.Statement.{statement}
+use Rattle.write_command.proofs.say_write.Tie as tie
 
 ask-write-requires : tie.Need-ask-write-requires
 ask-write-requires c κs = search needs

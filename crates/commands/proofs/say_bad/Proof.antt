@@ -1,7 +1,7 @@
--- `alone::say_bad` meets its contract. Assumes nothing.
+-- `commands::say_bad` meets its contract. Assumes nothing.
 use borrow.Author.Needs.{needs}
-use Rattle.alone.proofs.say_bad.Statement.{statement}
-use Rattle.alone.proofs.say_bad.Tie as tie
+use Rattle.commands.proofs.say_bad.Statement.{statement}
+use Rattle.commands.proofs.say_bad.Tie as tie
 
 slice-aggregate-put-bytes : tie.Need-slice-aggregate-put-bytes
 slice-aggregate-put-bytes c = search needs

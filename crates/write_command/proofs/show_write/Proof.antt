@@ -1,13 +1,13 @@
--- `alone::show_write` meets its contract. Assumes nothing.
+-- `write_command::show_write` meets its contract. Assumes nothing.
 use mathlib.Core.Path.{sym, ap, _∙_}
 use Rattle.text_out.specs.Text.{text, put, ascii}
 use Rattle.writer.specs.Writer.{answered}
 use Rattle.writer.specs.declared.Written.{Written}
 use Rattle.show.specs.Shown.{fillShown}
-use Rattle.alone.proofs.Laws.{write-shown}
+use Rattle.write_command.proofs.Laws.{write-shown}
 use borrow.Author.Needs.{needs}
-use Rattle.alone.proofs.show_write.Statement.{statement}
-use Rattle.alone.proofs.show_write.Tie as tie
+use Rattle.write_command.proofs.show_write.Statement.{statement}
+use Rattle.write_command.proofs.show_write.Tie as tie
 
 write-requires : tie.Need-write-requires
 write-requires c κs = search needs
