@@ -1,17 +1,33 @@
--- Unarmoring as it is shown, from its contract. Assumes nothing.
+-- The reply to a command line, by its first word. Assumes nothing.
 use Prim.Native.Nat.{ℕ}
-use mathlib.Core.Path.{_≡_, ap, _∙_}
+use mathlib.Core.Path.{_≡_, sym, subst}
+use mathlib.Core.Bool.{true, false}
 use mathlib.Core.List.{List}
-use lib.ListN.{length}
-use Rattle.refusal.specs.Words.{Told}
 use Rattle.text_out.specs.Text.{Text, put, ascii}
-use Rattle.armour.specs.Unarmor.{answered, answerOf, Unarmors}
-use Rattle.armour.specs.declared.Unarmored.{Unarmored}
-use Rattle.show.specs.Shown.{fillShown}
-use Rattle.protocol.specs.Said.{unarmorShown}
+use Rattle.words.specs.Line.{wordAt, sameAs}
+use Rattle.reassembly.specs.declared.Record.{Record}
+use Rattle.alone.specs.Alone.{aloneSaid}
+use Rattle.protocol.specs.Said.{Reply, reply, freshReply, lendReply, readReply, replyOf}
 
-pub unarmor-shown : (s : List ℕ) (fill : ℕ) (lent : List ℕ) (r : Unarmored) (after : List ℕ) → Unarmors s fill lent r after
-    → (x y : Text) → y ≡ put x (fillShown (ascii "bytes ") (answered r) after) → y ≡ put x (unarmorShown s fill lent)
-unarmor-shown s fill lent r after u x y e =
-    e ∙ ap (λ (t : Told ℕ). put x (fillShown (ascii "bytes ") t after)) (u .answers)
-    ∙ ap (λ (l : List ℕ). put x (fillShown (ascii "bytes ") (answerOf s fill (length lent)) l)) (u .leaves)
+module _ (state : Record) (line : List ℕ) where
+  pub reply-fresh : sameAs (wordAt 0 line) (ascii "fresh") ≡ true → replyOf state line ≡ freshReply state line
+  unfolding replyOf
+  reply-fresh e = rw e
+
+  module _ (d : sameAs (wordAt 0 line) (ascii "fresh") ≡ false) where
+    pub reply-lend : sameAs (wordAt 0 line) (ascii "lend") ≡ true → replyOf state line ≡ lendReply state line
+    unfolding replyOf
+    reply-lend e = rw (d, e)
+
+    module _ (l : sameAs (wordAt 0 line) (ascii "lend") ≡ false) where
+      pub reply-read : sameAs (wordAt 0 line) (ascii "read") ≡ true → replyOf state line ≡ readReply state line
+      unfolding replyOf
+      reply-read e = rw (d, l, e)
+
+      pub reply-alone : sameAs (wordAt 0 line) (ascii "read") ≡ false → replyOf state line ≡ reply (aloneSaid line) state
+      unfolding replyOf
+      reply-alone e = rw (d, l, e)
+
+-- what was said, and the record that was kept, of an equal reply
+pub as-replied : {a b : Reply} → a ≡ b → (x y : Text) (state : Record) → (y ≡ put x (b .said)) × (state ≡ b .kept) → (y ≡ put x (a .said)) × (state ≡ a .kept)
+as-replied e x y state f = subst (λ (r : Reply). (y ≡ put x (r .said)) × (state ≡ r .kept)) (sym e) f

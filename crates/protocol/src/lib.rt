@@ -1,108 +1,159 @@
 // The comparing protocol: a function for each command, which reads the line's words, makes the call, and puts the answer.
-use armour::Unarmored;
+use commands::Lend;
+use commands::Read;
+use reassembly::Record;
 use words::Filled;
-use words::Number;
 ghost use mathlib.Core.Path.{_≡_};
+ghost use lib.ListN.{take};
+ghost use Rattle.commands.specs.Asked.{bad};
+ghost use Rattle.show.specs.Shown.{lentBytes};
 ghost use Rattle.text_out.specs.Text.{text, put};
-ghost use Rattle.protocol.specs.Said.{bad, freshSaid, unarmorAsked, unarmorShown, unarmorSaid, decodeSaid, saidOf};
+ghost use Rattle.protocol.specs.Said.{freshReply, lendReply, lineReply, readReply, saidOf, keptOf};
 
-// The numbers of a command, or that it is none.
-enum Ask {
-    Unarmor(u64, u64),
-    Bad,
+// The record after a command, and the place behind what was said.
+pub struct Answered {
+    pub state: Record,
+    pub at: usize,
 }
 
 // The answer to a command line, by its first word.
-pub fn answer(line: &[u8], out: &mut [u8], at: usize) -> usize
-    ensures { λ r. ⌜ text r (now (out .exit)) ≡ put (text at (now (out .entry))) (saidOf (now (line .entry))) ⌝ }
+pub fn answer(state: Record, line: &[u8], out: &mut [u8], at: usize) -> Answered
+    ensures { λ r. ⌜ text (r .at) (now (out .exit)) ≡ put (text at (now (out .entry))) (saidOf state (now (line .entry))) ⌝ }
+    ensures { λ r. ⌜ r .state ≡ keptOf state (now (line .entry)) ⌝ }
 {
     if words::named(line, 0, b"fresh") {
-        return say_fresh(line, out, at);
+        return say_fresh(state, line, out, at);
     }
-    if words::named(line, 0, b"unarmor") {
-        return say_unarmor(line, out, at);
+    if words::named(line, 0, b"lend") {
+        return say_lend(state, line, out, at);
     }
-    if words::named(line, 0, b"decode") {
-        return say_decode(line, out, at);
+    if words::named(line, 0, b"read") {
+        return say_read(state, line, out, at);
     }
-    say_bad(out, at)
+    Answered {
+        state: state,
+        at: alone::answer(line, out, at),
+    }
 }
 
-// What is no command.
-pub fn say_bad(out: &mut [u8], at: usize) -> usize
-    ensures { λ r. ⌜ text r (now (out .exit)) ≡ put (text at (now (out .entry))) bad ⌝ }
+// What is no command changes nothing.
+fn no_command(state: Record, out: &mut [u8], at: usize) -> Answered
+    ensures { λ r. ⌜ text (r .at) (now (out .exit)) ≡ put (text at (now (out .entry))) bad ⌝ }
+    ensures { λ r. ⌜ r .state ≡ state ⌝ }
 {
-    text_out::put_bytes(out, at, b"bad command")
+    Answered {
+        state: state,
+        at: commands::say_bad(out, at),
+    }
 }
 
-// `fresh`: there is no record yet that it would make fresh.
-fn say_fresh(line: &[u8], out: &mut [u8], at: usize) -> usize
-    ensures { λ r. ⌜ text r (now (out .exit)) ≡ put (text at (now (out .entry))) (freshSaid (now (line .entry))) ⌝ }
+// `fresh`: makes the record fresh.
+fn say_fresh(state: Record, line: &[u8], out: &mut [u8], at: usize) -> Answered
+    ensures { λ r. ⌜ text (r .at) (now (out .exit)) ≡ put (text at (now (out .entry))) (freshReply state (now (line .entry)) .said) ⌝ }
+    ensures { λ r. ⌜ r .state ≡ freshReply state (now (line .entry)) .kept ⌝ }
 {
     if words::count(line) != 1 {
-        return say_bad(out, at);
+        return no_command(state, out, at);
     }
-    text_out::put_bytes(out, at, b"fresh")
+    let fresh = reassembly::fresh();
+    Answered {
+        state: fresh,
+        at: text_out::put_bytes(out, at, b"fresh"),
+    }
 }
 
-// `unarmor FILL ROOM DATA`: unarmoring alone, into ROOM bytes.
-fn say_unarmor(line: &[u8], out: &mut [u8], at: usize) -> usize
-    ensures { λ r. ⌜ text r (now (out .exit)) ≡ put (text at (now (out .entry))) (unarmorSaid (now (line .entry))) ⌝ }
+// `lend ID FRAGMENT LENGTH BYTES`: sets the record.
+fn say_lend(state: Record, line: &[u8], out: &mut [u8], at: usize) -> Answered
+    ensures { λ r. ⌜ text (r .at) (now (out .exit)) ≡ put (text at (now (out .entry))) (lendReply state (now (line .entry)) .said) ⌝ }
+    ensures { λ r. ⌜ r .state ≡ lendReply state (now (line .entry)) .kept ⌝ }
 {
-    let Ask::Unarmor(fill, room) = ask_unarmor(line) else {
-        return say_bad(out, at);
+    let Lend::Of(number, fragment, len) = commands::ask_lend(line) else {
+        return no_command(state, out, at);
     };
-    let mut payload = io::buffer();
-    let Filled::Bytes(n) = words::bytes(line, 3, &mut payload) else {
-        return say_bad(out, at);
+    let mut bytes = [0u8; 384];
+    let Filled::Bytes(_) = words::bytes(line, 4, &mut bytes) else {
+        return no_command(state, out, at);
     };
-    let k = text_out::up_to(n, &payload);
-    let mut lent = show::lent();
-    let m = text_out::up_to(room as usize, &lent);
-    show_unarmor(&payload[..k], fill as usize, &mut lent[..m], out, at)
+    Answered {
+        state: Record {
+            number: number,
+            fragment: fragment,
+            len: len as usize,
+            bytes: bytes,
+        },
+        at: text_out::put_bytes(out, at, b"lent"),
+    }
 }
 
-// `decode BYTES`: decoding alone.
-fn say_decode(line: &[u8], out: &mut [u8], at: usize) -> usize
-    ensures { λ r. ⌜ text r (now (out .exit)) ≡ put (text at (now (out .entry))) (decodeSaid (now (line .entry))) ⌝ }
+// `read DECODE ROOM BITROOM LINE`: reads one line, into ROOM bytes and BITROOM bytes.
+fn say_read(state: Record, line: &[u8], out: &mut [u8], at: usize) -> Answered
+    ensures { λ r. ⌜ text (r .at) (now (out .exit)) ≡ put (text at (now (out .entry))) (readReply state (now (line .entry)) .said) ⌝ }
+    ensures { λ r. ⌜ r .state ≡ readReply state (now (line .entry)) .kept ⌝ }
 {
-    if words::count(line) != 2 {
-        return say_bad(out, at);
-    }
-    let mut payload = io::buffer();
-    let Filled::Bytes(n) = words::bytes(line, 1, &mut payload) else {
-        return say_bad(out, at);
+    let Read::Of(decode, room, bitroom) = commands::ask_read(line) else {
+        return no_command(state, out, at);
     };
-    let k = text_out::up_to(n, &payload);
-    shown_message::put_decoded(out, at, &payload[..k])
+    let mut sent = io::buffer();
+    let Filled::Bytes(n) = words::bytes(line, 4, &mut sent) else {
+        return no_command(state, out, at);
+    };
+    let k = text_out::up_to(n, &sent);
+    lend_read(
+        state,
+        &sent[..k],
+        decode,
+        room as usize,
+        bitroom as usize,
+        out,
+        at,
+    )
 }
 
-// The numbers of `unarmor FILL ROOM DATA`.
-fn ask_unarmor(line: &[u8]) -> Ask
-    ensures { λ r. ⌜ r ≡ unarmorAsked (now (line .entry)) ⌝ }
+// Reads a line into lent buffers of these sizes.
+fn lend_read(
+    state: Record,
+    sent: &[u8],
+    decode: bool,
+    room: usize,
+    bitroom: usize,
+    out: &mut [u8],
+    at: usize,
+) -> Answered
+    ensures { λ r. ⌜ text (r .at) (now (out .exit)) ≡ put (text at (now (out .entry))) (lineReply state (now (sent .entry)) decode (take room lentBytes) (take bitroom lentBytes) .said) ⌝ }
+    ensures { λ r. ⌜ r .state ≡ lineReply state (now (sent .entry)) decode (take room lentBytes) (take bitroom lentBytes) .kept ⌝ }
 {
-    if words::count(line) != 4 {
-        return Ask::Bad;
-    }
-    let Number::Of(fill) = words::decimal(line, 1) else {
-        return Ask::Bad;
-    };
-    let Number::Of(room) = words::decimal(line, 2) else {
-        return Ask::Bad;
-    };
-    if room > 1024 {
-        return Ask::Bad;
-    }
-    Ask::Unarmor(fill, room)
+    let mut payload = show::lent();
+    let mut bits = show::lent();
+    let n = text_out::up_to(room, &payload);
+    let m = text_out::up_to(bitroom, &bits);
+    show_read(
+        state,
+        sent,
+        decode,
+        &mut payload[..n],
+        &mut bits[..m],
+        out,
+        at,
+    )
 }
 
-// Unarmors into a lent buffer, and shows what was given back.
-fn show_unarmor(payload: &[u8], fill: usize, lent: &mut [u8], out: &mut [u8], at: usize) -> usize
-    ensures { λ r. ⌜ text r (now (out .exit)) ≡ put (text at (now (out .entry))) (unarmorShown (now (payload .entry)) fill (now (lent .entry))) ⌝ }
+// Reads a line into lent buffers, and shows what was given back.
+fn show_read(
+    state: Record,
+    sent: &[u8],
+    decode: bool,
+    payload: &mut [u8],
+    bits: &mut [u8],
+    out: &mut [u8],
+    at: usize,
+) -> Answered
+    ensures { λ r. ⌜ text (r .at) (now (out .exit)) ≡ put (text at (now (out .entry))) (lineReply state (now (sent .entry)) decode (now (payload .entry)) (now (bits .entry)) .said) ⌝ }
+    ensures { λ r. ⌜ r .state ≡ lineReply state (now (sent .entry)) decode (now (payload .entry)) (now (bits .entry)) .kept ⌝ }
 {
-    let r = armour::unarmor(payload, fill, lent);
-    match r {
-        Unarmored::Bytes(n) => show::put_filled(out, at, b"bytes ", lent, n),
-        Unarmored::Refused(refusal) => show::put_refused(out, at, refusal, lent),
+    let stepped = reader::turn(state, sent, decode, payload, bits);
+    let after = stepped.state;
+    Answered {
+        state: after,
+        at: shown_call::put_called(out, at, stepped, decode, payload, bits),
     }
 }

@@ -3,6 +3,8 @@ use libc::STDIN_FILENO;
 use libc::STDOUT_FILENO;
 use lines::Collector;
 use lines::Event;
+use protocol::Answered;
+use reassembly::Record;
 ghost use mathlib.Core.Path.{_≡_};
 ghost use Prim.Native.Nat.{_<_};
 ghost use lib.ListN.{length};
@@ -11,9 +13,10 @@ ghost use Rattle.lines.specs.Collect.{nextOf};
 // A command line has at most so many bytes. A CR before the LF is one of them: no command has one.
 const MOST: u16 = 8192;
 
-// What is kept from block to block: the collector, and how much of the output buffer is in use.
+// What is kept from block to block: the collector, the reassembly record, and how much of the output buffer is in use.
 struct Kept {
     lines: Collector,
+    state: Record,
     used: usize,
 }
 
@@ -42,22 +45,28 @@ fn emptied(s: Kept, out: &[u8]) -> Kept {
     }
     write_out(out, s.used);
     let lines = s.lines;
+    let state = s.state;
     Kept {
         lines: lines,
+        state: state,
         used: 0,
     }
 }
 
-// A line: its answer, and an LF. Answers the place behind them.
-fn answer_line(line: &[u8], n: usize, out: &mut [u8], used: usize) -> usize {
+// A line: its answer, and an LF. Answers the record, and the place behind them.
+fn answer_line(state: Record, line: &[u8], n: usize, out: &mut [u8], used: usize) -> Answered {
     let k = text_out::up_to(n, line);
-    let at = protocol::answer(&line[..k], out, used);
-    text_out::put_byte(out, at, b'\n')
+    let a = protocol::answer(state, &line[..k], out, used);
+    let after = a.state;
+    Answered {
+        state: after,
+        at: text_out::put_byte(out, a.at, b'\n'),
+    }
 }
 
 // A line that is too long is no command.
 fn answer_long(out: &mut [u8], used: usize) -> usize {
-    let at = protocol::say_bad(out, used);
+    let at = commands::say_bad(out, used);
     text_out::put_byte(out, at, b'\n')
 }
 
@@ -65,6 +74,7 @@ fn answer_long(out: &mut [u8], used: usize) -> usize {
 fn answer_event(
     event: Event,
     lines: Collector,
+    state: Record,
     used: usize,
     line: &[u8],
     out: &mut [u8],
@@ -73,16 +83,22 @@ fn answer_event(
     ensures { λ r. ⌜ r .next ≡ nextOf event all ⌝ }
 {
     match event {
-        Event::Line(n, next) => Turn {
-            kept: Kept {
-                lines: lines,
-                used: answer_line(line, n, out, used),
-            },
-            next: next,
-        },
+        Event::Line(n, next) => {
+            let a = answer_line(state, line, n, out, used);
+            let after = a.state;
+            Turn {
+                kept: Kept {
+                    lines: lines,
+                    state: after,
+                    used: a.at,
+                },
+                next: next,
+            }
+        }
         Event::TooLong(next) => Turn {
             kept: Kept {
                 lines: lines,
+                state: state,
                 used: answer_long(out, used),
             },
             next: next,
@@ -90,6 +106,7 @@ fn answer_event(
         Event::Held => Turn {
             kept: Kept {
                 lines: lines,
+                state: state,
                 used: used,
             },
             next: all,
@@ -97,6 +114,7 @@ fn answer_event(
         Event::Room => Turn {
             kept: Kept {
                 lines: lines,
+                state: state,
                 used: used,
             },
             next: all,
@@ -110,10 +128,11 @@ fn take_event(s: Kept, block: &[u8], at: usize, line: &mut [u8], out: &mut [u8])
     ensures { λ r. ⌜ at < r .next ⌝ }
 {
     let before = s.lines;
+    let state = s.state;
     let c = lines::collect_to(before, MOST, false, block, at, line);
     let after = c.state;
     let event = c.event;
-    answer_event(event, after, s.used, line, out, block.len())
+    answer_event(event, after, state, s.used, line, out, block.len())
 }
 
 // All of a block.
@@ -164,9 +183,10 @@ fn read_all(s: Kept, line: &mut [u8], out: &mut [u8]) -> Kept {
 // Bytes that are left at the end of the input are a last line. Answers how much of the output buffer is then in use.
 fn answer_last(s: Kept, line: &[u8], out: &mut [u8]) -> usize {
     let held = s.lines;
+    let state = s.state;
     let empty = lines::new();
     let event = lines::last(held, MOST, false, line);
-    let t = answer_event(event, empty, s.used, line, out, 0);
+    let t = answer_event(event, empty, state, s.used, line, out, 0);
     t.kept.used
 }
 
@@ -174,8 +194,10 @@ fn main() {
     let mut out = io::large_buffer();
     let mut line = [0u8; 8192];
     let empty = lines::new();
+    let fresh = reassembly::fresh();
     let start = Kept {
         lines: empty,
+        state: fresh,
         used: 0,
     };
     let end = read_all(start, &mut line, &mut out);

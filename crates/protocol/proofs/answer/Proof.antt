@@ -1,6 +1,6 @@
 -- `protocol::answer` meets its contract. Assumes nothing.
-use mathlib.Core.Path.{sym, _∙_}
-use Rattle.protocol.specs.Said.{saidOf}
+use mathlib.Core.Path.{refl, sym, _∙_}
+use Rattle.protocol.proofs.Laws.{reply-fresh, reply-lend, reply-read, reply-alone, as-replied}
 use borrow.Author.Needs.{needs}
 use Rattle.protocol.proofs.answer.Statement.{statement}
 use Rattle.protocol.proofs.answer.Tie as tie
@@ -18,9 +18,9 @@ same-length : tie.Need-same-length
 same-length c = search needs
 
 returns : tie.Need-returns
-unfolding saidOf
 returns c =
-    rw (sym (c .before .before .before .before .before .named .ensures) ∙ c .before .before .before .before .if1 .taken) (c .before .before .say-fresh .ensures)
+    let s = c .before .before .before .before .before .before .before .before .before .args in
+    as-replied (reply-fresh (s .state) (s .line .now) (sym (c .before .before .before .before .before .named .ensures) ∙ c .before .before .before .before .if1 .taken)) _ _ _ (c .before .before .say-fresh .ensures)
 
 slice-aggregate-named-2 : tie.Need-slice-aggregate-named-2
 slice-aggregate-named-2 c = search needs
@@ -28,16 +28,16 @@ slice-aggregate-named-2 c = search needs
 named-requires-2 : tie.Need-named-requires-2
 named-requires-2 c κs = search needs
 
-say-unarmor-requires : tie.Need-say-unarmor-requires
-say-unarmor-requires c κs = search needs
+say-lend-requires : tie.Need-say-lend-requires
+say-lend-requires c κs = search needs
 
 same-length-2 : tie.Need-same-length-2
 same-length-2 c = search needs
 
 returns-2 : tie.Need-returns-2
-unfolding saidOf
 returns-2 c =
-    rw (sym (c .before .before .before .before .before .before .before .before .named .ensures) ∙ c .before .before .before .before .before .before .before .if1 .left, sym (c .before .before .before .before .before .named2 .ensures) ∙ c .before .before .before .before .if2 .taken) (c .before .before .say-unarmor .ensures)
+    let s = c .before .before .before .before .before .before .before .before .before .before .before .before .args in
+    as-replied (reply-lend (s .state) (s .line .now) (sym (c .before .before .before .before .before .before .before .before .named .ensures) ∙ c .before .before .before .before .before .before .before .if1 .left) (sym (c .before .before .before .before .before .named2 .ensures) ∙ c .before .before .before .before .if2 .taken)) _ _ _ (c .before .before .say-lend .ensures)
 
 slice-aggregate-named-3 : tie.Need-slice-aggregate-named-3
 slice-aggregate-named-3 c = search needs
@@ -45,47 +45,28 @@ slice-aggregate-named-3 c = search needs
 named-requires-3 : tie.Need-named-requires-3
 named-requires-3 c κs = search needs
 
-say-decode-requires : tie.Need-say-decode-requires
-say-decode-requires c κs = search needs
+say-read-requires : tie.Need-say-read-requires
+say-read-requires c κs = search needs
 
 same-length-3 : tie.Need-same-length-3
 same-length-3 c = search needs
 
 returns-3 : tie.Need-returns-3
-unfolding saidOf
 returns-3 c =
-    rw (sym (c .before .before .before .before .before .before .before .before .before .before .before .named .ensures) ∙ c .before .before .before .before .before .before .before .before .before .before .if1 .left, sym (c .before .before .before .before .before .before .before .before .named2 .ensures) ∙ c .before .before .before .before .before .before .before .if2 .left, sym (c .before .before .before .before .before .named3 .ensures) ∙ c .before .before .before .before .if3 .taken) (c .before .before .say-decode .ensures)
+    let s = c .before .before .before .before .before .before .before .before .before .before .before .before .before .before .before .args in
+    as-replied (reply-read (s .state) (s .line .now) (sym (c .before .before .before .before .before .before .before .before .before .before .before .named .ensures) ∙ c .before .before .before .before .before .before .before .before .before .before .if1 .left) (sym (c .before .before .before .before .before .before .before .before .named2 .ensures) ∙ c .before .before .before .before .before .before .before .if2 .left) (sym (c .before .before .before .before .before .named3 .ensures) ∙ c .before .before .before .before .if3 .taken)) _ _ _ (c .before .before .say-read .ensures)
 
-say-bad-requires : tie.Need-say-bad-requires
-say-bad-requires c κs = search needs
+answer-requires : tie.Need-answer-requires
+answer-requires c κs = search needs
 
 same-length-4 : tie.Need-same-length-4
 same-length-4 c = search needs
 
 returns-4 : tie.Need-returns-4
-unfolding saidOf
 returns-4 c =
-    rw (sym (c .before .before .before .before .before .before .before .before .before .before .before .named .ensures) ∙ c .before .before .before .before .before .before .before .before .before .before .if1 .left, sym (c .before .before .before .before .before .before .before .before .named2 .ensures) ∙ c .before .before .before .before .before .before .before .if2 .left, sym (c .before .before .before .before .before .named3 .ensures) ∙ c .before .before .before .before .if3 .left) (c .before .before .say-bad .ensures)
+    let s = c .before .before .before .before .before .before .before .before .before .before .before .before .before .before .before .args in
+    as-replied (reply-alone (s .state) (s .line .now) (sym (c .before .before .before .before .before .before .before .before .before .before .before .named .ensures) ∙ c .before .before .before .before .before .before .before .before .before .before .if1 .left) (sym (c .before .before .before .before .before .before .before .before .named2 .ensures) ∙ c .before .before .before .before .before .before .before .if2 .left) (sym (c .before .before .before .before .before .named3 .ensures) ∙ c .before .before .before .before .if3 .left)) _ _ _ (c .before .before .answer .ensures, refl)
 
 pub answer-spec : {M : Type 1} → statement M
 answer-spec =
-    tie.close
-    (tie.spec
-    slice-aggregate-named
-    named-requires
-    say-fresh-requires
-    same-length
-    returns
-    slice-aggregate-named-2
-    named-requires-2
-    say-unarmor-requires
-    same-length-2
-    returns-2
-    slice-aggregate-named-3
-    named-requires-3
-    say-decode-requires
-    same-length-3
-    returns-3
-    say-bad-requires
-    same-length-4
-    returns-4)
+    tie.close (tie.spec slice-aggregate-named named-requires say-fresh-requires same-length returns slice-aggregate-named-2 named-requires-2 say-lend-requires same-length-2 returns-2 slice-aggregate-named-3 named-requires-3 say-read-requires same-length-3 returns-3 answer-requires same-length-4 returns-4)

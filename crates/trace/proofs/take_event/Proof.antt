@@ -23,7 +23,7 @@ same-length-2 c = search needs
 
 returns : tie.Need-returns
 returns c =
-    let s = c .before .before .before .before .before .before .before .before .before .before .before .before .before .before in
+    let s = c .before .before .before .before .before .before .before .before .before .before .before .before .before .before .before in
     let b = s .args .block .now in
     subst (λ (n : ℕ). s .args .at < n)
     (ap (λ (x : Called). nextOf (x .event) (length b)) (sym (c .before .before .before .before .before .before .before .before .collect-to .ensures)) ∙ sym (c .before .before .answer-event .ensures))

@@ -1,0 +1,69 @@
+-- `shown_record::put_record` meets its contract. Assumes nothing.
+use mathlib.Core.Path.{ap, _∙_}
+use mathlib.Core.List.{List, [], _∷_, _++_}
+use Prim.Native.Nat.{ℕ}
+use Rattle.text_out.specs.Text.{text, put}
+use Rattle.text_out.proofs.Laws.{put-then}
+use Rattle.show.specs.Shown.{bytesShown}
+use Rattle.shown_values.specs.Values.{number}
+use Rattle.shown_record.specs.Record.{idShown}
+use borrow.Author.Needs.{needs}
+use Rattle.shown_record.proofs.put_record.Statement.{statement}
+use Rattle.shown_record.proofs.put_record.Tie as tie
+
+slice-aggregate-trim : tie.Need-slice-aggregate-trim
+slice-aggregate-trim c = search needs
+
+trim-requires : tie.Need-trim-requires
+trim-requires c κs = search needs
+
+put-id-requires : tie.Need-put-id-requires
+put-id-requires c κs = search needs
+
+cast-put-value : tie.Need-cast-put-value
+cast-put-value c = search needs
+
+put-value-requires : tie.Need-put-value-requires
+put-value-requires c κs = search needs
+
+put-value-requires-2 : tie.Need-put-value-requires-2
+put-value-requires-2 c κs = search needs
+
+put-byte-requires : tie.Need-put-byte-requires
+put-byte-requires c κs = search needs
+
+array-share-prefix-bytes : tie.Need-array-share-prefix-bytes
+array-share-prefix-bytes c = search needs
+
+slice-aggregate-put-shown : tie.Need-slice-aggregate-put-shown
+slice-aggregate-put-shown c = search needs
+
+put-shown-requires : tie.Need-put-shown-requires
+put-shown-requires c κs = search needs
+
+same-length : tie.Need-same-length
+same-length c = search needs
+
+returns : tie.Need-returns
+returns c =
+    let s = c .before .before .before .before .before .before .before .before .before .before .before .before .before .before .before .before .before .before .before .before .before .before .before .before .before .before .args in
+    let r = s .state in
+    put-then _ _ _ (put-then _ _ _ (put-then _ _ _ (c .before .before .before .before .before .before .before .before .before .before .before .before .before .before .before .before .before .before .before .before .put-id .ensures) (c .before .before .before .before .before .before .before .before .before .before .before .before .before .before .before .put-value .ensures)) (c .before .before .before .before .before .before .before .before .before .before .before .put-value2 .ensures)) (put-then _ (32 ∷ []) _ (c .before .before .before .before .before .before .before .put-byte .ensures) (c .before .before .put-shown .ensures))
+    ∙ ap (λ (t : List ℕ). put (text (s .at) (s .out .now)) (idShown (r .number) ++ number (r .fragment) ++ number (r .len) ++ (32 ∷ bytesShown t))) (c .before .before .before .before .before .before .before .before .before .before .before .before .before .before .before .before .before .before .before .before .before .before .trim .ensures .0)
+
+pub put-record-spec : {M : Type 1} → statement M
+put-record-spec =
+    tie.close
+    (tie.spec
+    slice-aggregate-trim
+    trim-requires
+    put-id-requires
+    cast-put-value
+    put-value-requires
+    put-value-requires-2
+    put-byte-requires
+    array-share-prefix-bytes
+    slice-aggregate-put-shown
+    put-shown-requires
+    same-length
+    returns)

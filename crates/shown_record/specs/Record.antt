@@ -1,0 +1,25 @@
+-- The reassembly record as the comparing protocol shows it: "`ID FRAGMENT LENGTH BYTES`".
+use Prim.Native.Nat.{ℕ}
+use mathlib.Core.Bool.{_&&_}
+use mathlib.Core.List.{List, [], _∷_, _++_}
+use lib.ListN.{length}
+use lib.Dec.{eqb}
+use Rattle.refusal.specs.Words.{pick}
+use Rattle.sentence.specs.declared.Number.{Number}
+use Rattle.reassembly.specs.declared.Record.{Record}
+use Rattle.show.specs.Shown.{bytesShown}
+use Rattle.shown_values.specs.Values.{number, absent}
+
+-- "ID is the message number or `-`"
+abbrev pub idShown : Number → List ℕ
+idShown Number.Absent = absent
+idShown (Number.Of n) = number n
+
+-- "with the zeros at the end left off"
+unfoldable pub trimmed : List ℕ → List ℕ
+trimmed [] = []
+trimmed (x ∷ s) = pick (eqb (length (trimmed s)) 0 && eqb x 0) [] (x ∷ trimmed s)
+
+-- "then the record, its 384 bytes with the zeros at the end left off"
+abbrev pub recordShown : Record → List ℕ
+recordShown r = idShown (r .number) ++ number (r .fragment) ++ number (r .len) ++ (32 ∷ bytesShown (trimmed (r .bytes)))

@@ -1,0 +1,47 @@
+// The reassembly record as the comparing protocol shows it: each value behind a space.
+use reassembly::Record;
+use sentence::Number;
+ghost use mathlib.Core.Path.{_≡_};
+ghost use Prim.Native.Nat.{_≤_};
+ghost use lib.ListN.{length, take};
+ghost use Rattle.text_out.specs.Text.{text, put};
+ghost use Rattle.shown_record.specs.Record.{idShown, trimmed, recordShown};
+
+// A record: ID FRAGMENT LENGTH BYTES.
+pub fn put_record(out: &mut [u8], at: usize, state: Record) -> usize
+    ensures { λ r. ⌜ text r (now (out .exit)) ≡ put (text at (now (out .entry))) (recordShown state) ⌝ }
+{
+    let number = state.number;
+    let bytes = state.bytes;
+    let n = trim(&bytes);
+    let a = put_id(out, at, number);
+    let b = show::put_value(out, a, state.fragment as u64);
+    let c = show::put_value(out, b, state.len as u64);
+    let d = text_out::put_byte(out, c, b' ');
+    show::put_shown(out, d, &bytes[..n])
+}
+
+// A message number, or none.
+pub fn put_id(out: &mut [u8], at: usize, number: Number) -> usize
+    ensures { λ r. ⌜ text r (now (out .exit)) ≡ put (text at (now (out .entry))) (idShown number) ⌝ }
+{
+    match number {
+        Number::Absent => shown_values::put_absent(out, at),
+        Number::Of(n) => show::put_value(out, at, n as u64),
+    }
+}
+
+// How many bytes are left without the zeros at the end.
+fn trim(bytes: &[u8]) -> usize
+    ensures { λ r. ⌜ take r (now (bytes .entry)) ≡ trimmed (now (bytes .entry)) ⌝ }
+    ensures { λ r. ⌜ (r ≤ length (now (bytes .entry))) × (r ≡ length (take r (now (bytes .entry)))) ⌝ }
+{
+    let mut n = bytes.len();
+    while n > 0 {
+        if bytes[n - 1] != 0 {
+            return n;
+        }
+        n -= 1;
+    }
+    n
+}
