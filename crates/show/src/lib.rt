@@ -10,10 +10,10 @@ ghost use Rattle.text_out.specs.Digits.{decimalOf};
 ghost use Rattle.show.specs.Shown.{valuesShown, refusalShown, bytesShown, lentBytes, untouchedIn, keptShown, fillShown};
 
 // A refusal's values, of which `count` stand first.
-struct Values {
-    count: u8,
-    first: u64,
-    second: u64,
+pub struct Values {
+    pub count: u8,
+    pub first: u64,
+    pub second: u64,
 }
 
 // Bytes to lend to a call, as many of them as it is to have.
@@ -97,7 +97,7 @@ pub fn put_refused(out: &mut [u8], at: usize, refusal: Refusal, lent: &[u8]) -> 
 }
 
 // The values of a refusal that are shown behind its number.
-fn values_of(refusal: Refusal) -> Values
+pub fn values_of(refusal: Refusal) -> Values
     ensures { λ r. ⌜ take (r .count) (r .first ∷ r .second ∷ []) ≡ rowOf refusal .values ⌝ }
 {
     match refusal {

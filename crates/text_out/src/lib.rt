@@ -89,7 +89,7 @@ pub fn up_to(n: usize, s: &[u8]) -> usize
 }
 
 // A signed number without its sign.
-fn magnitude(v: i32) -> u64
+pub fn magnitude(v: i32) -> u64
     ensures { λ r. ⌜ r ≡ sizeOf v ⌝ }
 {
     if v < 0 {

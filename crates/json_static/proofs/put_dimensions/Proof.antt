@@ -1,0 +1,66 @@
+-- `json_static::put_dimensions` meets its contract. Assumes nothing.
+use Rattle.text_out.proofs.Laws.{put-then}
+use borrow.Author.Needs.{needs}
+use Rattle.json_static.proofs.put_dimensions.Statement.{statement}
+use Rattle.json_static.proofs.put_dimensions.Tie as tie
+
+slice-aggregate-put-number : tie.Need-slice-aggregate-put-number
+slice-aggregate-put-number c = search needs
+
+cast-put-number : tie.Need-cast-put-number
+cast-put-number c = search needs
+
+put-number-requires : tie.Need-put-number-requires
+put-number-requires c κs = search needs
+
+slice-aggregate-put-number-2 : tie.Need-slice-aggregate-put-number-2
+slice-aggregate-put-number-2 c = search needs
+
+cast-put-number-2 : tie.Need-cast-put-number-2
+cast-put-number-2 c = search needs
+
+put-number-requires-2 : tie.Need-put-number-requires-2
+put-number-requires-2 c κs = search needs
+
+slice-aggregate-put-number-3 : tie.Need-slice-aggregate-put-number-3
+slice-aggregate-put-number-3 c = search needs
+
+cast-put-number-3 : tie.Need-cast-put-number-3
+cast-put-number-3 c = search needs
+
+put-number-requires-3 : tie.Need-put-number-requires-3
+put-number-requires-3 c κs = search needs
+
+slice-aggregate-put-number-4 : tie.Need-slice-aggregate-put-number-4
+slice-aggregate-put-number-4 c = search needs
+
+cast-put-number-4 : tie.Need-cast-put-number-4
+cast-put-number-4 c = search needs
+
+put-number-requires-4 : tie.Need-put-number-requires-4
+put-number-requires-4 c κs = search needs
+
+same-length : tie.Need-same-length
+same-length c = search needs
+
+returns : tie.Need-returns
+returns c = put-then _ _ _ (put-then _ _ _ (put-then _ _ _ (c .before .before .before .before .before .before .before .before .before .before .before .before .before .before .before .before .before .before .before .before .put-number .ensures) (c .before .before .before .before .before .before .before .before .before .before .before .before .before .before .put-number2 .ensures)) (c .before .before .before .before .before .before .before .before .put-number3 .ensures)) (c .before .before .put-number4 .ensures)
+
+pub put-dimensions-spec : {M : Type 1} → statement M
+put-dimensions-spec =
+    tie.close
+    (tie.spec
+    slice-aggregate-put-number
+    cast-put-number
+    put-number-requires
+    slice-aggregate-put-number-2
+    cast-put-number-2
+    put-number-requires-2
+    slice-aggregate-put-number-3
+    cast-put-number-3
+    put-number-requires-3
+    slice-aggregate-put-number-4
+    cast-put-number-4
+    put-number-requires-4
+    same-length
+    returns)
