@@ -16,8 +16,8 @@ ghost use Prim.Native.Nat.{_≤_};
 ghost use lib.ListN.{length};
 ghost use Rattle.refusal.specs.Words.{over};
 ghost use Rattle.ais.specs.Sentence.{trueType, heardOf, noSentence};
-ghost use Rattle.ais.specs.Call.{calledIn, calledOf};
-ghost use Rattle.ais.specs.Parts.{Handed, Large, refusedAs, takenAs, finishedOf, receivedOf};
+ghost use Rattle.ais.specs.Call.{calledIn, fragmentOf, calledOf};
+ghost use Rattle.ais.specs.Parts.{Handed, Large, refuses, refusedAs, takes, Finishes, receivedOf};
 
 // The type that the payload's first byte tells, absent where that byte is no armour.
 pub enum TrueType {
@@ -116,69 +116,81 @@ fn no_sentence() -> Sentence
     }
 }
 
+// A refusal.
+fn refuse(refusal: Refusal) -> Answer
+    ensures { λ r. ⌜ r ≡ refuses refusal ⌝ }
+{
+    let sentence = no_sentence();
+    let message = messages::nothing();
+    Answer {
+        outcome: Outcome::Refused(refusal),
+        sentence: sentence,
+        message: message,
+    }
+}
+
 // A refusal, and the record that it leaves.
 fn refused(state: Record, refusal: Refusal) -> Stepped
     ensures { λ r. ⌜ r ≡ refusedAs state refusal ⌝ }
 {
-    let sentence = no_sentence();
-    let message = messages::nothing();
-    Stepped {
-        state: state,
-        answer: Answer {
-            outcome: Outcome::Refused(refusal),
-            sentence: sentence,
-            message: message,
-        },
-    }
+    let answer = refuse(refusal);
+    Stepped { state, answer }
 }
 
 // A line that is taken: the payload handed out stands first in the payload buffer.
 fn taken(
-    state: Record,
     outcome: Outcome,
     s: AisSentence,
     handed: &[u8],
     message: Message,
     payload: &mut [u8],
-) -> Stepped
+) -> Answer
     requires { ⌜ Handed (s .«fill_bit_count») (now handed) × (384 ≤ length (now payload)) ⌝ }
-    ensures { λ r. ⌜ r ≡ takenAs state outcome s (now (handed .entry)) message ⌝ }
+    ensures { λ r. ⌜ r ≡ takes outcome s (now (handed .entry)) message ⌝ }
     ensures { λ r. ⌜ now (payload .exit) ≡ over (now (handed .entry)) (now (payload .entry)) ⌝ }
 {
     bytes::copy(handed, payload);
     let sentence = heard(s, handed);
-    Stepped {
-        state: state,
-        answer: Answer {
-            outcome: outcome,
-            sentence: sentence,
-            message: message,
-        },
+    Answer {
+        outcome: outcome,
+        sentence: sentence,
+        message: message,
     }
 }
 
-// A complete message, and the record that it leaves: decoded where that is asked.
+// A complete message: decoded where that is asked.
 fn finish(
-    state: Record,
     s: AisSentence,
     handed: &[u8],
     decode: bool,
     payload: &mut [u8],
     bits: &mut [u8],
-) -> Stepped
+) -> Answer
     requires { ⌜ Handed (s .«fill_bit_count») (now handed) × Large (now payload) (now bits) ⌝ }
-    ensures { λ r. ⌜ calledIn r (now (payload .exit)) (now (bits .exit)) ≡ finishedOf state s (now (handed .entry)) decode (now (payload .entry)) (now (bits .entry)) ⌝ }
+    ensures { λ r. ⌜ Finishes s (now (handed .entry)) decode (now (payload .entry)) (now (bits .entry)) r (now (payload .exit)) (now (bits .exit)) ⌝ }
 {
     if !decode {
         let message = messages::nothing();
-        return taken(state, Outcome::Complete, s, handed, message, payload);
+        return taken(Outcome::Complete, s, handed, message, payload);
     }
     let opened = opening::open(handed, s.fill_bit_count as usize, bits);
     let message = opened.message;
     let outcome = opened.outcome;
     match outcome {
-        Unarmored::Refused(refusal) => refused(state, refusal),
-        Unarmored::Bytes(_) => taken(state, Outcome::Complete, s, handed, message, payload),
+        Unarmored::Refused(refusal) => refuse(refusal),
+        Unarmored::Bytes(_) => taken(Outcome::Complete, s, handed, message, payload),
+    }
+}
+
+// What the record takes from a sentence.
+fn fragment_of(s: AisSentence) -> Fragment
+    ensures { λ r. ⌜ r ≡ fragmentOf s ⌝ }
+{
+    let id = s.message_id;
+    Fragment {
+        total: s.num_fragments,
+        number: s.fragment_number,
+        id: id,
     }
 }
 
@@ -194,28 +206,27 @@ fn receive(
     requires { ⌜ (s .«fill_bit_count» ≤ 5) × ((1 ≤ length (now own)) × Large (now payload) (now bits)) ⌝ }
     ensures { λ r. ⌜ calledIn r (now (payload .exit)) (now (bits .exit)) ≡ receivedOf state s (now (own .entry)) decode (now (payload .entry)) (now (bits .entry)) ⌝ }
 {
-    let id = s.message_id;
-    let fragment = Fragment {
-        total: s.num_fragments,
-        number: s.fragment_number,
-        id: id,
-    };
-    let joined = reassembly::join(state, fragment, own);
-    let after = joined.state;
+    let joined = reassembly::join(state, fragment_of(s), own);
+    let state = joined.state;
     let outcome = joined.outcome;
     match outcome {
-        reassembly::Outcome::Refused(refusal) => refused(after, refusal),
+        reassembly::Outcome::Refused(refusal) => refused(state, refusal),
         reassembly::Outcome::Taken(part) => match part {
             Part::Unfinished => {
                 let message = messages::nothing();
-                taken(after, Outcome::Unfinished, s, own, message, payload)
+                let answer = taken(Outcome::Unfinished, s, own, message, payload);
+                Stepped { state, answer }
             }
-            Part::Alone => finish(after, s, own, decode, payload, bits),
+            Part::Alone => {
+                let answer = finish(s, own, decode, payload, bits);
+                Stepped { state, answer }
+            }
             Part::Last => {
-                let whole = after.bytes;
-                let len = after.len;
-                let emptied = reassembly::emptied(after);
-                finish(emptied, s, &whole[..len], decode, payload, bits)
+                let whole = state.bytes;
+                let len = state.len;
+                let state = reassembly::emptied(state);
+                let answer = finish(s, &whole[..len], decode, payload, bits);
+                Stepped { state, answer }
             }
         },
     }

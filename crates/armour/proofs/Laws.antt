@@ -1,20 +1,24 @@
 -- The laws of armour. Assumes nothing.
 use mathlib.Core.Logic.{⊎-elim}
 use mathlib.Core.Path.{_≡_, refl, sym, ap, _∙_}
-use mathlib.Core.Bool.{false}
-use mathlib.Core.List.{List, [], _∷_, map}
+use mathlib.Core.Bool.{Bool, true, false, _&&_, _||_}
+use mathlib.Core.List.{List, [], _∷_, _++_, map}
 use Prim.Native.Nat.{ℕ, zero, suc, _+_, _-_, _*_, _/_, _%_, _^_, _≤_, _<_}
 use native.Mathlib.Nat.{not-suc-le-zero, le-of-suc-le-suc}
 use native.Mathlib.Numerals.{add-one, one-add}
-use lib.ListN.{length, getD, drop, drop-of-length-le}
+use lib.Bits.{bitAnd, mask-lt}
+use mir.Syntax.{w8}
+use mir.Val.{Fits}
+use lib.Dec.{ltb, leb, leb·suc-suc}
+use lib.ListN.{length, getD, set, drop, drop-of-length-le}
 use lib.Seq.{drop-cons}
 use native.Mathlib.Omega.{arith}
-use borrow.Author.Tests.{lt-ltb, le-ltb}
-use Rattle.refusal.specs.Words.{within}
+use borrow.Author.Tests.{lt-ltb, le-ltb, le-leb, lt-leb}
+use Rattle.refusal.specs.Words.{pick, within}
 use Rattle.refusal.proofs.Within.{in-range, below-range, above-range}
 use Rattle.armour.specs.Armour.{meaning, letter, firstBad, stream, size, unarmored}
-use Rattle.parsers.specs.Bits.{val, bitAt}
-use Rattle.parsers.proofs.Laws.{lt-or-le, length-pack, bit-lt, cut-lt, val-digit, cut-gone, cut-whole, cut-last}
+use Rattle.parsers.specs.Bits.{val, bitAt, pack}
+use Rattle.parsers.proofs.Laws.{lt-or-le, length-pack, pack-set, bit-lt, cut-lt, val-digit, cut-gone, cut-whole, cut-last}
 
 module _ (b : ℕ) where
   pub meaning-low : 48 ≤ b → b ≤ 87 → b - 48 ≡ meaning b
@@ -29,6 +33,58 @@ module _ (b : ℕ) where
   unfolding meaning
   meaning-none p q = rw (p, q)
 
+-- a byte is below the two ranges, in one, between them or beyond
+by-range : (P : Type 0) (b : ℕ) → (b < 48 → P) → (48 ≤ b → b ≤ 87 → P) → (88 ≤ b → b < 96 → P) → (96 ≤ b → b ≤ 119 → P) → (120 ≤ b → P) → P
+by-range P b below low between high beyond =
+    ⊎-elim below
+    (λ l. ⊎-elim (λ m. low l (omega arith)) (λ m. ⊎-elim (between m) (λ k. ⊎-elim (λ j. high k (omega arith)) beyond (lt-or-le b 120)) (lt-or-le b 96)) (lt-or-le b 88))
+    (lt-or-le b 48)
+
+module _ (b : ℕ) where
+  none-below : b < 48 → 64 ≡ meaning b
+  none-below l = meaning-none b (below-range 48 87 b l) (below-range 96 119 b (omega arith))
+
+  none-between : 88 ≤ b → b < 96 → 64 ≡ meaning b
+  none-between l m = meaning-none b (above-range 48 87 b (omega arith) (omega arith)) (below-range 96 119 b m)
+
+  none-beyond : 120 ≤ b → 64 ≡ meaning b
+  none-beyond l = meaning-none b (above-range 48 87 b (omega arith) (omega arith)) (above-range 96 119 b (omega arith) (omega arith))
+
+  -- armour is a byte of one of the two ranges, and every other means 64
+  pub armour-in : (P : Type 0) → meaning b < 64 → (48 ≤ b → b ≤ 87 → P) → (96 ≤ b → b ≤ 119 → P) → P
+  armour-in P h low high =
+      by-range P b (λ l. absurd (omega (arith, h, none-below l))) low (λ l m. absurd (omega (arith, h, none-between l m))) high (λ l. absurd (omega (arith, h, none-beyond l)))
+
+  pub armour-none : 64 ≤ meaning b → 64 ≡ meaning b
+  armour-none h =
+      by-range (64 ≡ meaning b) b none-below (λ l m. absurd (omega (arith, h, meaning-low b l m))) none-between (λ l m. absurd (omega (arith, h, meaning-high b l m))) none-beyond
+
+  pub armour-is : (within 48 87 b || within 96 119 b) ≡ ltb (meaning b) 64
+  armour-is =
+      by-range ((within 48 87 b || within 96 119 b) ≡ ltb (meaning b) 64) b
+      (λ l. rw (below-range 48 87 b l, below-range 96 119 b (omega arith), ← none-below l))
+      (λ l m. rw (in-range 48 87 b l m, ← meaning-low b l m) (sym (lt-ltb (b - 48) 64 (omega arith))))
+      (λ l m. rw (above-range 48 87 b (omega arith) (omega arith), below-range 96 119 b m, ← none-between l m))
+      (λ l m. rw (above-range 48 87 b (omega arith) (omega arith), in-range 96 119 b l m, ← meaning-high b l m) (sym (lt-ltb (b - 56) 64 (omega arith))))
+      (λ l. rw (above-range 48 87 b (omega arith) (omega arith), above-range 96 119 b (omega arith) (omega arith), ← none-beyond l))
+
+-- whether the first bytes are all armour is told by each of them in turn
+bad-beyond : (s : List ℕ) (i : ℕ) → i < length s → (leb i (firstBad s) && ltb (meaning (getD s i 0)) 64) ≡ leb (suc i) (firstBad s)
+bad-beyond [] i h = absurd (omega arith)
+bad-beyond (b ∷ s) zero h = go (ltb (meaning b) 64)
+  where
+    go : (t : Bool) → (leb zero (pick t (suc (firstBad s)) 0) && t) ≡ leb (suc zero) (pick t (suc (firstBad s)) 0)
+    go true = rw (le-leb zero (suc (firstBad s)) (omega arith), le-leb (suc zero) (suc (firstBad s)) (omega arith))
+    go false = refl
+bad-beyond (b ∷ s) (suc i) h = go (ltb (meaning b) 64) (bad-beyond s i (omega arith))
+  where
+    go : (t : Bool) → (leb i (firstBad s) && ltb (meaning (getD s i 0)) 64) ≡ leb (suc i) (firstBad s) → (leb (suc i) (pick t (suc (firstBad s)) 0) && ltb (meaning (getD s i 0)) 64) ≡ leb (suc (suc i)) (pick t (suc (firstBad s)) 0)
+    go true more = rw (leb·suc-suc i (firstBad s), leb·suc-suc (suc i) (firstBad s)) more
+    go false more = rw (lt-leb (suc i) 0 (omega arith), lt-leb (suc (suc i)) 0 (omega arith))
+
+pub good-next : (s : List ℕ) (i : ℕ) → i < length s → (leb i (firstBad s) && ltb (meaning (getD s i 0)) 64) ≡ leb (i + 1) (firstBad s)
+good-next s i h = rw add-one (bad-beyond s i h)
+
 -- the scan: at the end, at a byte that is no armour, at one that is
 module _ (s : List ℕ) (i : ℕ) where
   pub bad-end : length s ≤ i → firstBad (drop i s) ≡ 0
@@ -39,6 +95,10 @@ module _ (s : List ℕ) (i : ℕ) where
 
   pub bad-next : i < length s → meaning (getD s i 0) < 64 → firstBad (drop i s) ≡ 1 + firstBad (drop (i + 1) s)
   bad-next h b = rw (drop-cons s i 0 h, lt-ltb (meaning (getD s i 0)) 64 b, add-one i) (sym (one-add _))
+
+-- eight bits fit a byte
+pub masked-fits : (x : ℕ) → Fits w8 (bitAnd x 255)
+masked-fits x = record { fits = mask-lt x 8 }
 
 -- ---- the stream of a payload, by its characters
 pub stream-lt : (s : List ℕ) (fill i : ℕ) → stream s fill i < 2
@@ -79,24 +139,16 @@ meaning-letter v h =
     (λ l. rw (le-ltb v 40 l) (omega (arith, meaning-high (v + 56) (omega arith) (omega arith))))
     (lt-or-le v 40)
 
--- a byte between the ranges or beyond them means 64
-no-armour : (b : ℕ) → 64 ≡ meaning b → meaning b < 64 → ⊥
-no-armour b e h = omega arith
-
 pub letter-meaning : (b : ℕ) → meaning b < 64 → letter (meaning b) ≡ b
 letter-meaning b h =
-    ⊎-elim
-    (λ l. absurd (no-armour b (meaning-none b (below-range 48 87 b l) (below-range 96 119 b (omega arith))) h))
-    (λ l. ⊎-elim (low l) (λ m. ⊎-elim (between l m) (λ k. ⊎-elim (high k) (beyond k) (lt-or-le b 120)) (lt-or-le b 96)) (lt-or-le b 88))
-    (lt-or-le b 48) where
-      low : 48 ≤ b → b < 88 → letter (meaning b) ≡ b
-      low l m = rw (← meaning-low b l (omega arith), lt-ltb (b - 48) 40 (omega arith)) (omega arith)
+    armour-in b (letter (meaning b) ≡ b) h
+    (λ l m. rw (← meaning-low b l m, lt-ltb (b - 48) 40 (omega arith)) (omega arith))
+    (λ l m. rw (← meaning-high b l m, le-ltb (b - 56) 40 (omega arith)) (omega arith))
 
-      between : 48 ≤ b → 88 ≤ b → b < 96 → letter (meaning b) ≡ b
-      between l m k = absurd (no-armour b (meaning-none b (above-range 48 87 b l (omega arith)) (below-range 96 119 b k)) h)
-
-      high : 96 ≤ b → b < 120 → letter (meaning b) ≡ b
-      high k j = rw (← meaning-high b k (omega arith), le-ltb (b - 56) 40 (omega arith)) (omega arith)
-
-      beyond : 96 ≤ b → 120 ≤ b → letter (meaning b) ≡ b
-      beyond k j = absurd (no-armour b (meaning-none b (above-range 48 87 b (omega arith) (omega arith)) (above-range 96 119 b k (omega arith))) h)
+-- three bytes more, stored where those that stand first end
+pub pack-three : (f : ℕ → ℕ) (k : ℕ) (d out : List ℕ) (x y z : ℕ) → (k + 1) * 3 ≤ length d → out ≡ pack 8 (k * 3) f ++ drop (k * 3) d
+    → x ≡ val f (k * 3 * 8) 8 → y ≡ val f ((k * 3 + 1) * 8) 8 → z ≡ val f ((k * 3 + 2) * 8) 8 → set (set (set out (k * 3) x) (k * 3 + 1) y) (k * 3 + 2) z ≡ pack 8 ((k + 1) * 3) f ++ drop ((k + 1) * 3) d
+pack-three f k d out x y z h e p q r =
+    let two : k * 3 + 2 ≡ k * 3 + 1 + 1 = omega arith in
+    let three : (k + 1) * 3 ≡ k * 3 + 1 + 1 + 1 = omega arith in
+    rw (e, p, pack-set 8 (k * 3) f d (omega arith), q, pack-set 8 (k * 3 + 1) f d (omega arith), r, two, pack-set 8 (k * 3 + 1 + 1) f d (omega arith), three)

@@ -1,4 +1,4 @@
--- What unarming alone answers, and what it leaves in the output.
+-- What unarmoring alone answers, and what it leaves in the output.
 use mathlib.Core.Path.{_≡_}
 use mathlib.Core.Bool.{Bool, _&&_, _||_}
 use mathlib.Core.List.{List, [], _∷_}

@@ -1,8 +1,10 @@
 // What stands at a place of a line (the small parsers that sentence.rs takes from nom): one byte, a search, a number in digits, the exclusive or up to the star.
 ghost use mathlib.Core.Path.{_≡_};
-ghost use Prim.Native.Nat.{_≤_};
+ghost use Prim.Native.Nat.{_+_, _-_, _≤_};
+ghost use lib.Dec.{ltb};
+ghost use lib.ListN.{length, take, drop};
 ghost use Rattle.scan.specs.Rule.{atMost};
-ghost use Rattle.scan.specs.Scan.{byte, firstAt, hexOf, digitOf, number, decimal, hex, sumToStar};
+ghost use Rattle.scan.specs.Scan.{byte, before, firstAt, hexOf, digitOf, number, decimal, hex, xorOf, sumToStar};
 ghost use Rattle.scan.specs.Answers.{placeRead, numRead, sumRead};
 
 // The place after a byte, where that byte stands.
@@ -45,6 +47,13 @@ pub fn tag(line: &[u8], at: usize, b: u8) -> Place
 pub fn take_until(line: &[u8], at: usize, b: u8) -> usize
     ensures { λ r. ⌜ r ≡ firstAt b (now (line .entry)) at ⌝ }
 {
+    until(line, skip_blocks(line, at, b), b)
+}
+
+// The same, byte by byte.
+fn until(line: &[u8], at: usize, b: u8) -> usize
+    ensures { λ r. ⌜ r ≡ firstAt b (now (line .entry)) at ⌝ }
+{
     let mut i = at;
     while i < line.len() {
         if line[i] == b {
@@ -53,6 +62,37 @@ pub fn take_until(line: &[u8], at: usize, b: u8) -> usize
         i += 1;
     }
     i
+}
+
+// A place from which `b` is found at the same place: the start of sixteen bytes that hold it, or one that has fewer behind it.
+fn skip_blocks(line: &[u8], at: usize, b: u8) -> usize
+    ensures { λ r. ⌜ firstAt b (now (line .entry)) r ≡ firstAt b (now (line .entry)) at ⌝ }
+{
+    let mut i = at;
+    while i < line.len() {
+        if line.len() - i < 16 {
+            return i;
+        }
+        if in_block(line, i, b) {
+            return i;
+        }
+        i += 16;
+    }
+    i
+}
+
+// Whether one of the sixteen bytes from `at` on is `b`. All are looked at, with no way out between them, so that they can be taken at once.
+fn in_block(line: &[u8], at: usize, b: u8) -> bool
+    requires { ⌜ at + 16 ≤ length (now line) ⌝ }
+    ensures { λ r. ⌜ r ≡ ltb (before b (drop at (now (line .entry)))) 16 ⌝ }
+{
+    let mut found = false;
+    let mut k: usize = 0;
+    while k < 16 {
+        found = found | (line[at + k] == b);
+        k += 1;
+    }
+    found
 }
 
 // The value of a hex digit of either case.
@@ -119,19 +159,27 @@ pub fn parse_hex(line: &[u8], at: usize) -> Num
     digits(line, at, 8, 16)
 }
 
+// The exclusive or of the bytes from `at` up to `end`.
+fn exclusive_or(line: &[u8], at: usize, end: usize) -> u8
+    requires { ⌜ end ≤ length (now line) ⌝ }
+    ensures { λ r. ⌜ r ≡ xorOf 0 (take (end - at) (drop at (now (line .entry)))) ⌝ }
+{
+    let mut i = at;
+    let mut sum: u8 = 0;
+    while i < end {
+        sum = sum ^ line[i];
+        i += 1;
+    }
+    sum
+}
+
 // The exclusive or of the bytes up to the first star.
 pub fn sum_to_star(line: &[u8], at: usize) -> Sum
     ensures { λ r. ⌜ sumRead (now (line .entry)) at r ≡ sumToStar (now (line .entry)) at ⌝ }
 {
-    let mut i = at;
-    let mut sum: u8 = 0;
-    while i < line.len() {
-        let b = line[i];
-        if b == b'*' {
-            return Sum::Of(sum);
-        }
-        sum = sum ^ b;
-        i += 1;
+    let end = take_until(line, at, b'*');
+    if line.len() <= end {
+        return Sum::Absent;
     }
-    Sum::Absent
+    Sum::Of(exclusive_or(line, at, end))
 }

@@ -1,20 +1,13 @@
 -- `byte_at`: two characters joined by a shift (`val-join`), the byte cut out of them by a shift and a mask (`val-field`). Assumes nothing.
 use mathlib.Core.Path.{refl}
-use Prim.Native.Nat.{ℕ, _+_, _-_, _*_, _/_, _%_}
+use Prim.Native.Nat.{_+_, _-_, _*_, _/_, _%_}
 use native.Mathlib.Omega.{arith}
-use lib.Bits.{bitAnd, mask-lt}
-use mir.Syntax.{w8}
-use mir.Val.{Fits}
 use Rattle.armour.specs.Armour.{stream}
 use Rattle.parsers.proofs.Laws.{val-join, val-field}
-use Rattle.armour.proofs.Laws.{stream-lt}
+use Rattle.armour.proofs.Laws.{stream-lt, masked-fits}
 use borrow.Author.Needs.{needs}
 use Rattle.armour.proofs.byte_at.Statement.{statement}
 use Rattle.armour.proofs.byte_at.Tie as tie
-
--- eight bits fit a byte
-masked-fits : (x : ℕ) → Fits w8 (bitAnd x 255)
-masked-fits x = record { fits = mask-lt x 8 }
 
 mul-q : tie.Need-mul-q
 mul-q c = search needs

@@ -1,68 +1,95 @@
--- `spread`: the first j bytes stand there, and all further bytes as they were. Assumes nothing.
-use mathlib.Core.Path.{_≡_, refl}
-use mathlib.Core.List.{_++_}
-use Prim.Native.Nat.{_-_, _≤_}
+-- `spread`: the groups, and then up to two bytes more, each behind those that stand there. Assumes nothing.
+use mathlib.Core.Path.{_≡_}
+use mathlib.Core.List.{List, _++_}
+use Prim.Native.Nat.{ℕ, _+_, _*_, _/_, _≤_}
 use native.Mathlib.Omega.{arith}
-use lib.ListN.{length, drop, length-set}
+use lib.ListN.{length, set, drop, length-set}
 use Rattle.armour.specs.Armour.{stream}
-use Rattle.parsers.specs.Bits.{pack}
+use Rattle.parsers.specs.Bits.{val, pack}
 use Rattle.parsers.proofs.Laws.{pack-set}
+use borrow.Author.Needs.{needs}
 use Rattle.armour.proofs.spread.Statement.{statement}
 use Rattle.armour.proofs.spread.Tie as tie
 
-abbrev Inv-loop : tie.InvT-loop
-Inv-loop payload fill need out₀ j₀ out j =
-    (j ≤ need) × ((length out ≡ length out₀) × (out ≡ pack 8 j (stream payload fill) ++ drop j out₀))
+-- one byte behind j bytes, and two
+module _ (f : ℕ → ℕ) (j need : ℕ) (d out : List ℕ) (x : ℕ) where
+  rest-one : need ≡ j + 1 → need ≤ length d → out ≡ pack 8 j f ++ drop j d → x ≡ val f (j * 8) 8 → set out j x ≡ pack 8 need f ++ drop need d
+  rest-one n h e p = rw (n, e, p, pack-set 8 j f d (omega arith))
 
-abbrev μ-loop : tie.MeasureT-loop
-μ-loop payload fill need out₀ j₀ out j = need - j
+  rest-two : (y : ℕ) → need ≡ j + 1 + 1 → need ≤ length d → out ≡ pack 8 j f ++ drop j d → x ≡ val f (j * 8) 8 → y ≡ val f ((j + 1) * 8) 8
+      → set (set out j x) (j + 1) y ≡ pack 8 need f ++ drop need d
+  rest-two y n h e p q = rw (n, e, p, pack-set 8 j f d (omega arith), q, pack-set 8 (j + 1) f d (omega arith))
 
-loop-holds : tie.Need-loop-holds Inv-loop μ-loop
-unfolding pack
-loop-holds c = (omega arith, (refl, refl))
+put-groups-requires : tie.Need-put-groups-requires
+put-groups-requires c κs = search needs
 
-byte-at-requires : tie.Need-byte-at-requires Inv-loop μ-loop
-byte-at-requires c κs = omega arith
+mul-j : tie.Need-mul-j
+mul-j c = search needs
 
-slice-write-out : tie.Need-slice-write-out Inv-loop μ-loop
-slice-write-out c = omega arith
+same-length : tie.Need-same-length
+same-length c = search needs
 
-add-j : tie.Need-add-j Inv-loop μ-loop
-add-j c = omega arith
-
-loop-less : tie.Need-loop-less Inv-loop μ-loop
-loop-less c = omega arith
-
-loop-again : tie.Need-loop-again Inv-loop μ-loop
-loop-again c =
-    let a = c .before .before .before .before .before .args in
-    let l = c .before .before .loop in (
-      omega arith,
-      (
-        simp length-set (l .inv .1 .0),
-        rw (l .inv .1 .1, c .byte-at .ensures) (pack-set 8 (l .j) (stream (a .payload .now) (a .fill)) (a .out .now) (omega arith)),
-      ),
-    )
-
-same-length : tie.Need-same-length Inv-loop μ-loop
-same-length c = c .before .loop .inv .1 .0
-
-returns : tie.Need-returns Inv-loop μ-loop
+returns : tie.Need-returns
 returns c =
-    let e : c .before .loop .j ≡ c .before .before .before .before .args .need = omega arith in
-    rw (← e) (c .before .loop .inv .1 .1)
+    let p = c .before .before .before in
+    let e : p .before .before .before .before .args .need / 3 * 3 ≡ p .before .before .before .before .args .need = omega (arith, c .if1 .taken) in
+    rw (← e) (p .put-groups .ensures)
+
+byte-at-requires : tie.Need-byte-at-requires
+byte-at-requires c κs = search needs
+
+slice-write-out : tie.Need-slice-write-out
+slice-write-out c = search needs
+
+add-if2 : tie.Need-add-if2
+add-if2 c = search needs
+
+same-length-2 : tie.Need-same-length-2
+same-length-2 c = search needs
+
+returns-2 : tie.Need-returns-2
+returns-2 c =
+    let p = c .before .before .before .before .before in
+    let a = p .before .before .before .before .args in
+    rest-one (stream (a .payload .now) (a .fill)) (a .need / 3 * 3) (a .need) (a .out .now) _ _ (omega (arith, c .if2 .taken, c .before .before .if1 .left)) (p .before .before .before .before .pre .1 .1) (p .put-groups .ensures) (c .before .byte-at .ensures)
+
+add-byte-at : tie.Need-add-byte-at
+add-byte-at c = search needs
+
+byte-at-requires-2 : tie.Need-byte-at-requires-2
+byte-at-requires-2 c κs = search needs
+
+add-out : tie.Need-add-out
+add-out c = search needs
+
+slice-write-out-2 : tie.Need-slice-write-out-2
+slice-write-out-2 c = simp length-set (search needs)
+
+same-length-3 : tie.Need-same-length-3
+same-length-3 c = search needs
+
+returns-3 : tie.Need-returns-3
+returns-3 c =
+    let p = c .before .before .before .before .before .before in
+    let a = p .before .before .before .before .args in
+    rest-two (stream (a .payload .now) (a .fill)) (a .need / 3 * 3) (a .need) (a .out .now) _ _ _ (omega (arith, c .before .if2 .left)) (p .before .before .before .before .pre .1 .1) (p .put-groups .ensures) (c .before .before .byte-at .ensures) (c .byte-at2 .ensures)
 
 pub spread-spec : {M : Type 1} → statement M
 spread-spec =
     tie.close
     (tie.spec
-    Inv-loop
-    μ-loop
-    loop-holds
+    put-groups-requires
+    mul-j
+    same-length
+    returns
     byte-at-requires
     slice-write-out
-    add-j
-    loop-less
-    loop-again
-    same-length
-    returns)
+    add-if2
+    same-length-2
+    returns-2
+    add-byte-at
+    byte-at-requires-2
+    add-out
+    slice-write-out-2
+    same-length-3
+    returns-3)

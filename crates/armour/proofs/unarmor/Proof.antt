@@ -1,7 +1,7 @@
 -- `unarmor`: each way out is one law of the answer (proofs/Answers). Assumes nothing.
-use mathlib.Core.Path.{_≡_, refl, ap}
+use mathlib.Core.Path.{_≡_, refl, sym, ap, _∙_}
 use Prim.Native.Nat.{ℕ}
-use native.Mathlib.Omega.{arith}
+use borrow.Author.Tests.{not-true, not-false, leb-true, leb-false}
 use mathlib.Core.Logic.{⊎-elim}
 use mathlib.Core.Bool.{false}
 use mathlib.Core.List.{[], _∷_}
@@ -39,16 +39,19 @@ add-need c = search needs
 returns-4 : tie.Need-returns-4
 returns-4 c = answered-by _ _ _ (refused 12 []) (says-12 _ _ _ (fill-good (c .before .before)) (c .before .if4 .left) (c .if5 .taken)) refl refl
 
+all-armour-requires : tie.Need-all-armour-requires
+all-armour-requires c κs = search needs
+
 first-bad-requires : tie.Need-first-bad-requires
 first-bad-requires c κs = search needs
 
 returns-5 : tie.Need-returns-5
 returns-5 c =
-    let f = c .before in
-    let e = f .first-bad .ensures in
+    let t = c .before in
+    let g = t .before in
     answered-by _ _ _ (refused 8 (_ ∷ []))
-    (says-8 _ _ _ (fill-good (f .before .before .before)) (f .before .before .if4 .left) (f .before .if5 .left) (omega (arith, e)))
-    (ap (λ (x : ℕ). refused 8 (x ∷ [])) e) refl
+    (says-8 _ _ _ (fill-good (g .before .before .before)) (g .before .before .if4 .left) (g .before .if5 .left) (leb-false _ _ (sym (g .all-armour .ensures) ∙ not-true _ (t .if6 .taken))))
+    (ap (λ (x : ℕ). refused 8 (x ∷ [])) (c .first-bad .ensures)) refl
 
 spread-requires : tie.Need-spread-requires
 spread-requires c κs = search needs
@@ -59,9 +62,9 @@ same-length c = search needs
 returns-6 : tie.Need-returns-6
 returns-6 c =
     let o = c .before .before .before .before in
-    let f = o .before in
+    let g = o .before in
     answered-by _ _ _ (taken _)
-    (says-taken _ _ _ (fill-good (f .before .before .before)) (f .before .before .if4 .left) (f .before .if5 .left) (omega (arith, f .first-bad .ensures)))
+    (says-taken _ _ _ (fill-good (g .before .before .before)) (g .before .before .if4 .left) (g .before .if5 .left) (leb-true _ _ (sym (g .all-armour .ensures) ∙ not-false _ (o .if6 .left))))
     refl (rw unarmored-length (c .before .before .spread .ensures))
 
 pub unarmor-spec : {M : Type 1} → statement M
@@ -74,6 +77,7 @@ unarmor-spec =
     mul-need
     add-need
     returns-4
+    all-armour-requires
     first-bad-requires
     returns-5
     spread-requires
