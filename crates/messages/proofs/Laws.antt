@@ -18,35 +18,35 @@ use Rattle.position_report.specs.Report.{positionOf}
 use Rattle.static_data_report.specs.StaticData.{staticDataOf}
 use Rattle.interrogation.specs.Interrogation.{interrogatedOf}
 use Rattle.messages.specs.Messages.{typeOf, noMessage, positionIn, staticIn, askedIn, messageBy, endsPosition, endsStatic, endsAsked, endsInside, decodedOf}
-use Rattle.messages.specs.Parts.{endingOr, readingBy}
+use Rattle.messages.specs.Parts.{endingOr, decodingBy}
 
 -- the five types
 module _ (k : ℕ) (d : List ℕ) where
-  pub at-position : 1 ≤ k → k ≤ 3 → readingBy k d ≡ endingOr (endsPosition (positionOf positionTable d)) (positionIn (positionOf positionTable d))
+  pub at-position : 1 ≤ k → k ≤ 3 → decodingBy k d ≡ endingOr (endsPosition (positionOf positionTable d)) (positionIn (positionOf positionTable d))
   unfolding messageBy endsInside
   at-position p q =
       rw (in-range 1 3 k p q, below-range 4 14 k (omega arith), below-range 16 21 k (omega arith), ne-eqb k 27 (λ e. omega arith))
 
   pub at-asked : k ≡ 15
-      → readingBy k d ≡ endingOr (endsAsked (interrogatedOf d .outcome)) (askedIn (interrogatedOf d .outcome) (interrogatedOf d .interrogation))
+      → decodingBy k d ≡ endingOr (endsAsked (interrogatedOf d .outcome)) (askedIn (interrogatedOf d .outcome) (interrogatedOf d .interrogation))
   unfolding within messageBy endsInside
   at-asked e = rw e
 
-  pub at-static : k ≡ 24 → readingBy k d ≡ endingOr (endsStatic (staticDataOf d .report)) (staticIn (staticDataOf d .report) (staticDataOf d .texts))
+  pub at-static : k ≡ 24 → decodingBy k d ≡ endingOr (endsStatic (staticDataOf d .report)) (staticIn (staticDataOf d .report) (staticDataOf d .texts))
   unfolding within messageBy endsInside
   at-static e = rw e
 
   -- 10
-  pub at-27 : k ≡ 27 → readingBy k d ≡ record { told = refused 10 (k ∷ []); message = noMessage }
+  pub at-27 : k ≡ 27 → decodingBy k d ≡ record { told = refused 10 (k ∷ []); message = noMessage }
   unfolding within messageBy endsInside
   at-27 e = rw e
 
-  pub at-4-to-14 : 4 ≤ k → k ≤ 14 → readingBy k d ≡ record { told = refused 10 (k ∷ []); message = noMessage }
+  pub at-4-to-14 : 4 ≤ k → k ≤ 14 → decodingBy k d ≡ record { told = refused 10 (k ∷ []); message = noMessage }
   unfolding messageBy endsInside
   at-4-to-14 p q =
       rw (above-range 1 3 k (omega arith) (omega arith), ne-eqb k 15 (λ e. omega arith), ne-eqb k 24 (λ e. omega arith), in-range 4 14 k p q)
 
-  pub at-16-to-21 : 16 ≤ k → k ≤ 21 → readingBy k d ≡ record { told = refused 10 (k ∷ []); message = noMessage }
+  pub at-16-to-21 : 16 ≤ k → k ≤ 21 → decodingBy k d ≡ record { told = refused 10 (k ∷ []); message = noMessage }
   unfolding messageBy endsInside
   at-16-to-21 p q =
       rw (
@@ -58,11 +58,11 @@ module _ (k : ℕ) (d : List ℕ) where
       )
 
   -- 11
-  pub at-0 : k ≡ 0 → readingBy k d ≡ record { told = refused 11 (k ∷ []); message = noMessage }
+  pub at-0 : k ≡ 0 → decodingBy k d ≡ record { told = refused 11 (k ∷ []); message = noMessage }
   unfolding within messageBy endsInside
   at-0 e = rw e
 
-  pub from-22 : 22 ≤ k → (k ≡ 24 → ⊥) → (k ≡ 27 → ⊥) → readingBy k d ≡ record { told = refused 11 (k ∷ []); message = noMessage }
+  pub from-22 : 22 ≤ k → (k ≡ 24 → ⊥) → (k ≡ 27 → ⊥) → decodingBy k d ≡ record { told = refused 11 (k ∷ []); message = noMessage }
   unfolding messageBy endsInside
   from-22 p q r =
       rw (
@@ -81,7 +81,7 @@ of-none [] e = refl
 of-none (b ∷ d) e = absurd (omega arith)
 
 -- some bytes, of the type that their first six bits have
-pub of-some : (d : List ℕ) → (length d ≡ 0 → ⊥) → decodedOf d ≡ readingBy (typeOf d) d
+pub of-some : (d : List ℕ) → (length d ≡ 0 → ⊥) → decodedOf d ≡ decodingBy (typeOf d) d
 unfolding decodedOf
 of-some d h = rw (ne-eqb (length d) 0 h)
 

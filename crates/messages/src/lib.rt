@@ -13,7 +13,7 @@ ghost use Rattle.position_report.specs.Report.{positionOf};
 ghost use Rattle.static_data_report.specs.StaticData.{staticDataOf};
 ghost use Rattle.interrogation.specs.Interrogation.{interrogatedOf};
 ghost use Rattle.messages.specs.Messages.{noMessage, positionIn, staticIn, askedIn, endsPosition, endsStatic, endsAsked, answered, decodedOf};
-ghost use Rattle.messages.specs.Parts.{refusedBy, endingOr, readingBy};
+ghost use Rattle.messages.specs.Parts.{refusedBy, endingOr, decodingBy};
 
 // What a message tells. A static data report's texts and an interrogation's lists stand beside this enum, in `Message`.
 pub enum AisMessage {
@@ -134,7 +134,7 @@ fn parse_interrogation(bytes: &[u8]) -> Decoded
 
 // By the type.
 fn parse_type(bytes: &[u8], kind: u8) -> Decoded
-    ensures { λ r. ⌜ answered r ≡ readingBy kind (now (bytes .entry)) ⌝ }
+    ensures { λ r. ⌜ answered r ≡ decodingBy kind (now (bytes .entry)) ⌝ }
 {
     match kind {
         1..=3 => parse_position(bytes),

@@ -18,7 +18,7 @@ use Rattle.armour.specs.Unarmor.{badFill, tooLong, noArmour, answered, answerOf
 use Rattle.armour.specs.declared.Unarmored.{Unarmored}
 use Rattle.armour.specs.declared.Unarmored.the-variants.{Bytes, Refused}
 use Rattle.armour.proofs.Laws.{unarmored-length}
-use Rattle.messages.specs.Messages.{Reading, outcomeIn, typeOf, messageBy, decodeChecks}
+use Rattle.messages.specs.Messages.{Decoding, outcomeIn, typeOf, messageBy, decodeChecks}
 use Rattle.messages.specs.Messages as read
 use Rattle.messages.specs.declared.Decoded.{Decoded}
 use Rattle.messages.specs.declared.Outcome.the-variants as outcome
@@ -33,11 +33,11 @@ opens-refused d bits o r e = rw e (record { told = refl; message = refl; leaves 
 module _ (d : List ℕ) (found : Decoded) (e : read.answered found ≡ read.decodedOf d) where
   its-told : outcomeIn (found .outcome) ≡ checked (decodeChecks d) (taken tt)
   unfolding read.decodedOf
-  its-told = ap (λ (r : Reading). r .told) e
+  its-told = ap (λ (r : Decoding). r .told) e
 
   its-message : found .message ≡ messageBy (typeOf d) d
   unfolding read.decodedOf
-  its-message = ap (λ (r : Reading). r .message) e
+  its-message = ap (λ (r : Decoding). r .message) e
 
   pub decoded-taken : (bits bits′ : List ℕ) (n : ℕ) → found .outcome ≡ outcome.Taken → n ≡ length d → bits′ ≡ take (length d) d ++ drop (length d) bits
       → Opens (decodedOf d) d bits (record { outcome = Bytes n; message = found .message }) bits′

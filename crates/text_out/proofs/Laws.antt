@@ -5,7 +5,7 @@ use native.Mathlib.Omega.{arith}
 use native.Mathlib.Numerals.{add-one}
 use mathlib.Core.Path.{_≡_, refl, sym, ap, _∙_}
 use mathlib.Core.List.{List, [], _∷_, _++_, append-assoc}
-use lib.ListN.{length, take, drop, set, length-set, take-append-drop, drop-of-length-le}
+use lib.ListN.{length, take, drop, set, length-set, take-append-drop}
 use lib.Seq.{take-all, drop-set-lt, take-suc-set}
 use lib.Dec.{ltb, leb}
 use borrow.Author.Tests.{lt-ltb, leb-true, leb-false}
@@ -62,12 +62,3 @@ module _ (n : ℕ) (s : List ℕ) where
       go : (b : Bool) → leb n (length s) ≡ b → take (min n (length s)) s ≡ take n s
       go true e = let z : min n (length s) ≡ n = omega (arith, leb-true n (length s) e) in rw z
       go false e = take-all (min n (length s)) s (omega (arith, leb-false n (length s) e)) ∙ sym (take-all n s (omega (arith, leb-false n (length s) e)))
-
-  pub drop-min : drop (min n (length s)) s ≡ drop n s
-  drop-min = go (leb n (length s)) refl
-    where
-      go : (b : Bool) → leb n (length s) ≡ b → drop (min n (length s)) s ≡ drop n s
-      go true e = let z : min n (length s) ≡ n = omega (arith, leb-true n (length s) e) in rw z
-      go false e =
-          drop-of-length-le s {i = min n (length s)} (omega (arith, leb-false n (length s) e))
-          ∙ sym (drop-of-length-le s {i = n} (omega (arith, leb-false n (length s) e)))
