@@ -7,7 +7,10 @@ use Rattle.text_out.specs.Text.{Text, put, ascii}
 use Rattle.words.specs.Line.{wordAt, sameAs}
 use Rattle.reassembly.specs.declared.Record.{Record}
 use Rattle.alone.specs.Alone.{aloneSaid}
-use Rattle.protocol.specs.Said.{Reply, reply, freshReply, lendReply, readReply, replyOf}
+use Rattle.reply.specs.Reply.{Reply, reply}
+use Rattle.lend_command.specs.Lend.{freshReply, lendReply}
+use Rattle.read_command.specs.Read.{readReply}
+use Rattle.protocol.specs.Said.{replyOf}
 
 module _ (state : Record) (line : List ℕ) where
   pub reply-fresh : sameAs (wordAt 0 line) (ascii "fresh") ≡ true → replyOf state line ≡ freshReply state line

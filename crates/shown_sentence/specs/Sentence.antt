@@ -1,6 +1,9 @@
 -- What is told of a line that was taken, as the comparing protocol shows it: "`TALKER REPORT TOTAL NUMBER ID CHANNEL FILL CRATETYPE TRUETYPE SENT ..`".
 use Prim.Native.Nat.{ℕ}
-use mathlib.Core.List.{List, _++_}
+use mathlib.Core.List.{List, _∷_, _++_}
+use lib.Dec.{eqb}
+use lib.ListN.{getD}
+use Rattle.refusal.specs.Words.{pick}
 use Rattle.sentence.specs.declared.TalkerId.{TalkerId}
 use Rattle.sentence.specs.declared.AisReportType.{AisReportType}
 use Rattle.sentence.specs.declared.Channel.{Channel}
@@ -29,6 +32,10 @@ abbrev pub reportShown : AisReportType → List ℕ
 reportShown AisReportType.VDM = ascii " VDM"
 reportShown AisReportType.VDO = ascii " VDO"
 reportShown AisReportType.Unknown = ascii " Unknown"
+
+-- the same of letters as a line of ours has them, where zeros stand for none
+abbrev pub nameShown : List ℕ → List ℕ
+nameShown letters = 32 ∷ pick (eqb (getD letters 0 0) 0) (ascii "Unknown") letters
 
 -- "CHANNEL its byte as a number or `-`"
 abbrev pub channelShown : Channel → List ℕ

@@ -5,8 +5,10 @@ use sentence::AisReportType;
 use sentence::Channel;
 use sentence::TalkerId;
 ghost use mathlib.Core.Path.{_≡_};
+ghost use Prim.Native.Nat.{_<_};
+ghost use lib.ListN.{length};
 ghost use Rattle.text_out.specs.Text.{text, put};
-ghost use Rattle.shown_sentence.specs.Sentence.{talkerShown, reportShown, channelShown, typeShown, headShown, loadShown, sentenceShown};
+ghost use Rattle.shown_sentence.specs.Sentence.{talkerShown, reportShown, nameShown, channelShown, typeShown, headShown, loadShown, sentenceShown};
 
 // A sentence, in the order of the line.
 pub fn put_sentence(out: &mut [u8], at: usize, told: Sentence) -> usize
@@ -47,30 +49,28 @@ fn put_load(out: &mut [u8], at: usize, told: Sentence) -> usize
 fn put_talker(out: &mut [u8], at: usize, talker: TalkerId) -> usize
     ensures { λ r. ⌜ text r (now (out .exit)) ≡ put (text at (now (out .entry))) (talkerShown talker) ⌝ }
 {
-    match talker {
-        TalkerId::AB => text_out::put_bytes(out, at, b" AB"),
-        TalkerId::AD => text_out::put_bytes(out, at, b" AD"),
-        TalkerId::AI => text_out::put_bytes(out, at, b" AI"),
-        TalkerId::AN => text_out::put_bytes(out, at, b" AN"),
-        TalkerId::AR => text_out::put_bytes(out, at, b" AR"),
-        TalkerId::AS => text_out::put_bytes(out, at, b" AS"),
-        TalkerId::AT => text_out::put_bytes(out, at, b" AT"),
-        TalkerId::AX => text_out::put_bytes(out, at, b" AX"),
-        TalkerId::BS => text_out::put_bytes(out, at, b" BS"),
-        TalkerId::SA => text_out::put_bytes(out, at, b" SA"),
-        TalkerId::Unknown => text_out::put_bytes(out, at, b" Unknown"),
-    }
+    let s = written_line::talker_letters(talker);
+    put_name(out, at, &s)
 }
 
 // A report type, by its letters.
 fn put_report(out: &mut [u8], at: usize, report: AisReportType) -> usize
     ensures { λ r. ⌜ text r (now (out .exit)) ≡ put (text at (now (out .entry))) (reportShown report) ⌝ }
 {
-    match report {
-        AisReportType::VDM => text_out::put_bytes(out, at, b" VDM"),
-        AisReportType::VDO => text_out::put_bytes(out, at, b" VDO"),
-        AisReportType::Unknown => text_out::put_bytes(out, at, b" Unknown"),
+    let s = written_line::report_letters(report);
+    put_name(out, at, &s)
+}
+
+// Letters behind a space, or that they are unknown where they are zeros.
+fn put_name(out: &mut [u8], at: usize, s: &[u8]) -> usize
+    requires { ⌜ 0 < length (now s) ⌝ }
+    ensures { λ r. ⌜ text r (now (out .exit)) ≡ put (text at (now (out .entry))) (nameShown (now (s .entry))) ⌝ }
+{
+    let a = text_out::put_byte(out, at, b' ');
+    if s[0] == 0 {
+        return text_out::put_bytes(out, a, b"Unknown");
     }
+    text_out::put_bytes(out, a, s)
 }
 
 // A channel's byte, or none.

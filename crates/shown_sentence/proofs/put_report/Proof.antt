@@ -1,69 +1,30 @@
 -- `shown_sentence::put_report` meets its contract. Assumes nothing.
+use mathlib.Core.Path.{sym, ap, _∙_}
+use Rattle.text_out.specs.Text.{text, put}
+use Rattle.shown_sentence.proofs.Letters.{report-shown}
 use borrow.Author.Needs.{needs}
 use Rattle.shown_sentence.proofs.put_report.Statement.{statement}
 use Rattle.shown_sentence.proofs.put_report.Tie as tie
 
-enum-told : tie.Need-enum-told
-enum-told c = search needs
+report-letters-requires : tie.Need-report-letters-requires
+report-letters-requires c κs = search needs
 
-slice-aggregate-put-bytes : tie.Need-slice-aggregate-put-bytes
-slice-aggregate-put-bytes c = search needs
+slice-aggregate-put-name : tie.Need-slice-aggregate-put-name
+slice-aggregate-put-name c = search needs
 
-put-bytes-requires : tie.Need-put-bytes-requires
-put-bytes-requires c κs = search needs
-
-enum-told-2 : tie.Need-enum-told-2
-enum-told-2 c = search needs
-
-slice-aggregate-put-bytes-2 : tie.Need-slice-aggregate-put-bytes-2
-slice-aggregate-put-bytes-2 c = search needs
-
-put-bytes-requires-2 : tie.Need-put-bytes-requires-2
-put-bytes-requires-2 c κs = search needs
-
-enum-told-3 : tie.Need-enum-told-3
-enum-told-3 c = search needs
-
-slice-aggregate-put-bytes-3 : tie.Need-slice-aggregate-put-bytes-3
-slice-aggregate-put-bytes-3 c = search needs
-
-put-bytes-requires-3 : tie.Need-put-bytes-requires-3
-put-bytes-requires-3 c κs = search needs
+put-name-requires : tie.Need-put-name-requires
+put-name-requires c κs = search needs
 
 same-length : tie.Need-same-length
 same-length c = search needs
 
 returns : tie.Need-returns
-returns c = rw (c .before .before .before .before .before .enum-told .given .1) (c .before .before .put-bytes .ensures)
-
-same-length-2 : tie.Need-same-length-2
-same-length-2 c = search needs
-
-returns-2 : tie.Need-returns-2
-returns-2 c = rw (c .before .before .before .before .before .enum-told2 .given .1) (c .before .before .put-bytes2 .ensures)
-
-same-length-3 : tie.Need-same-length-3
-same-length-3 c = search needs
-
-returns-3 : tie.Need-returns-3
-returns-3 c = rw (c .before .before .before .before .before .enum-told3 .given .1) (c .before .before .put-bytes3 .ensures)
+returns c =
+    let s = c .before .before .before .before .before .before .before .args in
+    let t = c .before .before .before .before .before .report-letters in
+    c .before .before .put-name .ensures
+    ∙ ap (put (text (s .at) (s .out .now))) (sym (report-shown (s .report) (t .result) (t .ensures)))
 
 pub put-report-spec : {M : Type 1} → statement M
 put-report-spec =
-    tie.close
-    (tie.spec
-    enum-told
-    slice-aggregate-put-bytes
-    put-bytes-requires
-    enum-told-2
-    slice-aggregate-put-bytes-2
-    put-bytes-requires-2
-    enum-told-3
-    slice-aggregate-put-bytes-3
-    put-bytes-requires-3
-    same-length
-    returns
-    same-length-2
-    returns-2
-    same-length-3
-    returns-3)
+    tie.close (tie.spec report-letters-requires slice-aggregate-put-name put-name-requires same-length returns)
