@@ -1,0 +1,34 @@
+-- All that an answer tells: its code, its fifty numbers and its texts.
+use Prim.Native.Nat.{ℕ}
+use mathlib.Core.List.{List, _++_}
+use Rattle.refusal.specs.Words.{Told}
+use Rattle.messages.specs.declared.Message.{Message}
+use Rattle.ais.specs.Call.{Progress, outcomeIn}
+use Rattle.ais.specs.declared.Answer.{Answer}
+use Rattle.ais.specs.declared.Sentence.{Sentence}
+use Rattle.text_out.specs.Text.{text, put}
+use Rattle.sentence_numbers.specs.Sentence.{codeOf, valuesOf, sentenceNumbers}
+use Rattle.static_numbers.specs.Static.{textBytes}
+use Rattle.message_numbers.specs.Message.{messageNumbers}
+
+-- two values, fourteen numbers of the sentence, thirty-four of the message
+abbrev pub numbersBy : Told Progress → Sentence → Message → List ℕ
+numbersBy told sentence message = valuesOf told ++ (sentenceNumbers sentence ++ messageNumbers message)
+
+-- the same of an answer of the code
+abbrev pub answerNumbers : Answer → List ℕ
+answerNumbers a = numbersBy (outcomeIn (a .outcome)) (a .sentence) (a .message)
+
+-- the code, and what is lent for the numbers and the texts
+pub record Tells : Type 0 where
+  pub code : ℕ
+  pub numbers : List ℕ
+  pub texts : List ℕ
+
+abbrev pub toldIn : ℕ → List ℕ → List ℕ → Tells
+toldIn code numbers texts = record { code = code; numbers = numbers; texts = texts }
+
+-- each put from the start on
+abbrev pub toldOf : Answer → List ℕ → List ℕ → Tells
+toldOf a numbers texts =
+    toldIn (codeOf (outcomeIn (a .outcome))) (put (text 0 numbers) (answerNumbers a) .bytes) (put (text 0 texts) (textBytes (a .message .texts)) .bytes)

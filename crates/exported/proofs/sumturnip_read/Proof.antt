@@ -1,0 +1,73 @@
+-- `exported::sumturnip_read` meets its contract. Assumes nothing.
+use Rattle.exported.proofs.Calls.{record-short, numbers-short, texts-short, read-flattened}
+use borrow.Author.Needs.{needs}
+use Rattle.exported.proofs.sumturnip_read.Statement.{statement}
+use Rattle.exported.proofs.sumturnip_read.Tie as tie
+
+returns : tie.Need-returns
+returns c =
+    let s = c .before .before .before .before .before .before .before .args in
+    record-short (s .state .now) (s .line .now) (s .decode) (s .payload .now) (s .bits .now) (s .answer .now) (s .texts .now) (c .if1 .taken)
+
+returns-2 : tie.Need-returns-2
+returns-2 c =
+    let s = c .before .before .before .before .before .before .before .before .args in
+    numbers-short (s .state .now) (s .line .now) (s .decode) (s .payload .now) (s .bits .now) (s .answer .now) (s .texts .now) (c .before .if1 .left) (c .if2 .taken)
+
+returns-3 : tie.Need-returns-3
+returns-3 c =
+    let s = c .before .before .before .before .before .before .before .before .before .args in
+    texts-short (s .state .now) (s .line .now) (s .decode) (s .payload .now) (s .bits .now) (s .answer .now) (s .texts .now) (c .before .before .if1 .left) (c .before .if2 .left) (c .if3 .taken)
+
+load-requires : tie.Need-load-requires
+load-requires c κs = search needs
+
+step-requires : tie.Need-step-requires
+step-requires c κs = search needs
+
+store-requires : tie.Need-store-requires
+store-requires c κs = search needs
+
+tell-requires : tie.Need-tell-requires
+tell-requires c κs = search needs
+
+same-length : tie.Need-same-length
+same-length c = search needs
+
+same-length-2 : tie.Need-same-length-2
+same-length-2 c = search needs
+
+same-length-3 : tie.Need-same-length-3
+same-length-3 c = search needs
+
+same-length-4 : tie.Need-same-length-4
+same-length-4 c = search needs
+
+same-length-5 : tie.Need-same-length-5
+same-length-5 c = search needs
+
+returns-4 : tie.Need-returns-4
+returns-4 c =
+    let s = c .before .before .before .before .before .before .before .before .before .before .before .before .before .before .before .before .before .before .before .before .before .before .before .before .before .before .before .before .before .args in
+    let t = c .before .before .before .before .tell .ensures in
+    read-flattened (s .state .now) (s .line .now) (s .decode) (s .payload .now) (s .bits .now) (s .answer .now) (s .texts .now)
+    (c .before .before .before .before .before .before .before .before .before .before .before .before .before .before .before .before .before .before .before .before .before .before .if1 .left) (c .before .before .before .before .before .before .before .before .before .before .before .before .before .before .before .before .before .before .before .before .before .if2 .left) (c .before .before .before .before .before .before .before .before .before .before .before .before .before .before .before .before .before .before .before .before .if3 .left) (c .before .before .before .before .before .before .before .before .before .before .before .before .before .before .before .before .before .before .load .ensures) (c .before .before .before .before .before .before .before .before .before .before .before .before .before .before .before .step .result) (c .before .before .before .before .before .before .before .before .before .before .before .before .before .before .before .step .ensures)
+    (c .before .before .before .before .before .before .before .before .before .store .ensures) (t .0) (t .1)
+
+pub sumturnip-read-spec : {M : Type 1} → statement M
+sumturnip-read-spec =
+    tie.close
+    (tie.spec
+    returns
+    returns-2
+    returns-3
+    load-requires
+    step-requires
+    store-requires
+    tell-requires
+    same-length
+    same-length-2
+    same-length-3
+    same-length-4
+    same-length-5
+    returns-4)

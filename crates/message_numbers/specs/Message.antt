@@ -1,0 +1,19 @@
+-- The last thirty-four numbers of an answer: the message.
+use Prim.Native.Nat.{ℕ}
+use mathlib.Core.List.{List}
+use lib.ListN.{replicate}
+use Rattle.messages.specs.declared.AisMessage.{AisMessage}
+use Rattle.messages.specs.declared.Message.{Message}
+use Rattle.position_numbers.specs.Position.{positionNumbers}
+use Rattle.static_numbers.specs.Static.{staticNumbers}
+use Rattle.asked_numbers.specs.Asked.{askedNumbers}
+
+-- by its kind; no message is zeros
+abbrev pub contentNumbers : AisMessage → Message → List ℕ
+contentNumbers AisMessage.Nothing m = replicate 34 0
+contentNumbers (AisMessage.PositionReport p) m = positionNumbers p
+contentNumbers (AisMessage.StaticDataReport s) m = staticNumbers s (m .texts)
+contentNumbers AisMessage.Interrogation m = askedNumbers (m .interrogation)
+
+abbrev pub messageNumbers : Message → List ℕ
+messageNumbers m = contentNumbers (m .content) m

@@ -1,0 +1,30 @@
+// A message as the last 34 of an answer's 50 numbers.
+use messages::AisMessage;
+use messages::Message;
+ghost use mathlib.Core.Path.{_≡_};
+ghost use lib.ListN.{replicate};
+ghost use Rattle.text_out.specs.Text.{text, put};
+ghost use Rattle.message_numbers.specs.Message.{messageNumbers};
+
+// Any message.
+pub fn put_message(out: &mut [u64], at: usize, m: Message) -> usize
+    ensures { λ r. ⌜ text r (now (out .exit)) ≡ put (text at (now (out .entry))) (messageNumbers m) ⌝ }
+{
+    let content = m.content;
+    let texts = m.texts;
+    let asked = m.interrogation;
+    match content {
+        AisMessage::Nothing => put_nothing(out, at),
+        AisMessage::PositionReport(p) => position_numbers::put_position(out, at, p),
+        AisMessage::StaticDataReport(s) => static_numbers::put_static(out, at, s, texts),
+        AisMessage::Interrogation => asked_numbers::put_asked(out, at, asked),
+    }
+}
+
+// No message.
+fn put_nothing(out: &mut [u64], at: usize) -> usize
+    ensures { λ r. ⌜ text r (now (out .exit)) ≡ put (text at (now (out .entry))) (replicate 34 0) ⌝ }
+{
+    let rest = [0u64; 34];
+    numbers::put_numbers(out, at, &rest)
+}
