@@ -87,11 +87,17 @@ pub fn put_texts(out: &mut [u8], at: usize, t: Texts) -> usize
     put_text(out, c, callsign)
 }
 
-// A text, with the zeros of its unused places.
+// A text, with the zeros of its unused places: all at once where it fits.
 fn put_text(out: &mut [u8], at: usize, t: Text) -> usize
     ensures { λ r. ⌜ text r (now (out .exit)) ≡ put (text at (now (out .entry))) (t .bytes) ⌝ }
     ensures { λ _. ⌜ length (t .bytes) ≡ 20 ⌝ }
 {
-    let bytes = t.bytes;
-    text_out::put_bytes(out, at, &bytes)
+    let held = t.bytes;
+    if at <= out.len() {
+        if 20 <= out.len() - at {
+            bytes::copy(&held, &mut out[at..]);
+            return at + 20;
+        }
+    }
+    text_out::put_bytes(out, at, &held)
 }

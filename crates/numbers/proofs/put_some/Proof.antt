@@ -1,4 +1,4 @@
--- `numbers::put_numbers` meets its contract: what is put so far and what is left are the whole. Assumes nothing.
+-- `numbers::put_some` meets its contract: what is put so far and what is left are the whole. Assumes nothing.
 use native.Mathlib.Omega.{arith}
 use Prim.Native.Nat.{_-_}
 use mathlib.Core.Path.{_≡_, refl, sym, ap, _∙_}
@@ -7,8 +7,8 @@ use Rattle.text_out.specs.Text.{Text, text, put}
 use Rattle.text_out.proofs.Laws.{put-length}
 use Rattle.text_out.proofs.Strings.{bytes-step, bytes-end}
 use borrow.Author.Needs.{needs}
-use Rattle.numbers.proofs.put_numbers.Statement.{statement}
-use Rattle.numbers.proofs.put_numbers.Tie as tie
+use Rattle.numbers.proofs.put_some.Statement.{statement}
+use Rattle.numbers.proofs.put_some.Tie as tie
 
 abbrev Inv-loop : tie.InvT-loop
 Inv-loop out₀ at s p₀ i₀ out p i = (put (text p out) (drop i s) ≡ put (text at out₀) s) × (length out ≡ length out₀)
@@ -51,8 +51,8 @@ returns c =
     let l = c .before .loop in
     sym (bytes-end (text (l .p) (l .out)) (c .before .before .before .before .args .s .now) (l .i) (omega arith)) ∙ l .inv .0
 
-pub put-numbers-spec : {M : Type 1} → statement M
-put-numbers-spec =
+pub put-some-spec : {M : Type 1} → statement M
+put-some-spec =
     tie.close
     (tie.spec
     Inv-loop
