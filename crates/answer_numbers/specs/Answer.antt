@@ -8,8 +8,7 @@ use Rattle.ais.specs.declared.Answer.{Answer}
 use Rattle.ais.specs.declared.Sentence.{Sentence}
 use Rattle.text_out.specs.Text.{text, put}
 use Rattle.sentence_numbers.specs.Sentence.{codeOf, valuesOf, sentenceNumbers}
-use Rattle.static_numbers.specs.Static.{textBytes}
-use Rattle.message_numbers.specs.Message.{messageNumbers}
+use Rattle.message_numbers.specs.Message.{messageNumbers, messageTexts}
 
 -- two values, fourteen numbers of the sentence, thirty-four of the message
 abbrev pub numbersBy : Told Progress → Sentence → Message → List ℕ
@@ -31,4 +30,4 @@ toldIn code numbers texts = record { code = code; numbers = numbers; texts = tex
 -- each put from the start on
 abbrev pub toldOf : Answer → List ℕ → List ℕ → Tells
 toldOf a numbers texts =
-    toldIn (codeOf (outcomeIn (a .outcome))) (put (text 0 numbers) (answerNumbers a) .bytes) (put (text 0 texts) (textBytes (a .message .texts)) .bytes)
+    toldIn (codeOf (outcomeIn (a .outcome))) (put (text 0 numbers) (answerNumbers a) .bytes) (put (text 0 texts) (messageTexts (a .message)) .bytes)

@@ -3,18 +3,18 @@ use ais::Answer;
 ghost use mathlib.Core.Path.{_≡_};
 ghost use lib.ListN.{length};
 ghost use Rattle.text_out.specs.Text.{text, put};
-ghost use Rattle.static_numbers.specs.Static.{textBytes};
+ghost use Rattle.message_numbers.specs.Message.{messageTexts};
 ghost use Rattle.answer_numbers.specs.Answer.{answerNumbers, toldIn, toldOf};
 
 // All that an answer tells: each stands first in what is lent for it, and what does not fit is left out.
 pub fn tell(a: Answer, numbers: &mut [u64], texts: &mut [u8]) -> u32
     ensures { λ r. ⌜ toldIn r (now (numbers .exit)) (now (texts .exit)) ≡ toldOf a (now (numbers .entry)) (now (texts .entry)) ⌝ }
-    ensures { λ _. ⌜ length (textBytes (a .message .texts)) ≡ 80 ⌝ }
+    ensures { λ _. ⌜ length (messageTexts (a .message)) ≡ 80 ⌝ }
 {
     let outcome = a.outcome;
     let message = a.message;
     put_answer(numbers, 0, a);
-    static_numbers::put_texts(texts, 0, message.texts);
+    message_numbers::put_texts(texts, 0, message);
     sentence_numbers::code(outcome)
 }
 

@@ -18,7 +18,7 @@ use Rattle.ais.specs.Call.{calledIn, calledOf}
 use Rattle.ais.specs.declared.Stepped.{Stepped}
 use Rattle.record_bytes.specs.Bytes.{recordIn, recordBytes, loadedOf, storedOf}
 use Rattle.sentence_numbers.specs.Sentence.{countOf}
-use Rattle.static_numbers.specs.Static.{textBytes}
+use Rattle.message_numbers.specs.Message.{messageTexts}
 use Rattle.answer_numbers.specs.Answer.{answerNumbers, Tells, toldIn, toldOf}
 use Rattle.answer_numbers.proofs.Counts.{answer-length}
 use Rattle.exported.specs.Calls.{freshenedIn, freshenedOf, readIn, readOf, unarmsIn, unarmsOf}
@@ -55,7 +55,7 @@ module _ (state line : List ℕ) (decode : Bool) (payload bits numbers texts : L
           → {found : Record} → found ≡ loadedOf state
           → (s : Stepped) {payload′ bits′ : List ℕ} → calledIn s payload′ bits′ ≡ calledOf found line decode payload bits
           → {state′ : List ℕ} → state′ ≡ storedOf (s .state) state
-          → {code : ℕ} {numbers′ texts′ : List ℕ} → toldIn code numbers′ texts′ ≡ toldOf (s .answer) numbers texts → length (textBytes (s .answer .message .texts)) ≡ 80
+          → {code : ℕ} {numbers′ texts′ : List ℕ} → toldIn code numbers′ texts′ ≡ toldOf (s .answer) numbers texts → length (messageTexts (s .answer .message)) ≡ 80
           → readIn code state′ payload′ bits′ numbers′ texts′ ≡ readOf state line decode payload bits numbers texts
       unfolding readOf
       read-flattened h {found} f s {payload′} {bits′} e p t k =
@@ -64,7 +64,7 @@ module _ (state line : List ℕ) (decode : Bool) (payload bits numbers texts : L
           let call : calledOf (recordIn state) line decode payload bits ≡ calledIn s payload′ bits′ =
           ap (λ (r : Record). calledOf r line decode payload bits) (sym (f ∙ loaded)) ∙ sym e in
           let all = first (answerNumbers (s .answer)) numbers (omega (arith, answer-length (s .answer), b)) in
-          let shown = first (textBytes (s .answer .message .texts)) texts (omega (arith, k, h)) in
+          let shown = first (messageTexts (s .answer .message)) texts (omega (arith, k, h)) in
           rw (le-ltb (length state) 400 a, le-ltb (length numbers) 50 b, le-ltb (length texts) 80 h, call, p, stored)
           (rw (ap (λ (x : Tells). x .code) t, ap (λ (x : Tells). x .numbers) t, all, ap (λ (x : Tells). x .texts) t, shown))
 

@@ -11,7 +11,7 @@ use Rattle.reassembly.specs.Record.{freshRecord}
 use Rattle.ais.specs.Call.{Called, calledOf}
 use Rattle.record_bytes.specs.Bytes.{tooFew, recordIn, recordBytes}
 use Rattle.sentence_numbers.specs.Sentence.{codeOf, countOf}
-use Rattle.static_numbers.specs.Static.{textBytes}
+use Rattle.message_numbers.specs.Message.{messageTexts}
 use Rattle.answer_numbers.specs.Answer.{numbersBy}
 
 -- what making a record fresh gives back: the answer, and the record's bytes
@@ -46,7 +46,7 @@ tooShort state numbers texts = tooFew state || (ltb (length numbers) 50 || ltb (
 abbrev pub flattened : Called → List ℕ → List ℕ → List ℕ → Read
 flattened c state numbers texts =
     readIn (codeOf (c .told)) (over (recordBytes (c .after)) state) (c .payload) (c .bits)
-    (over (numbersBy (c .told) (c .sentence) (c .message)) numbers) (over (textBytes (c .message .texts)) texts)
+    (over (numbersBy (c .told) (c .sentence) (c .message)) numbers) (over (messageTexts (c .message)) texts)
 
 -- the whole call: that of the reader on the record in the bytes; or 12, with nothing written
 unfoldable pub readOf : List ℕ → List ℕ → Bool → List ℕ → List ℕ → List ℕ → List ℕ → Read

@@ -4,7 +4,8 @@ use sentence::Number;
 ghost use mathlib.Core.Path.{_≡_};
 ghost use Prim.Native.Nat.{_+_, _≤_};
 ghost use lib.ListN.{length};
-ghost use Rattle.reassembly.specs.Record.{Fits, sameNumber, emptiedOf, emptyAs, freshRecord, openedOf, added, joinedBytes, aloneOf, severalOf, joinOf, joinIn};
+ghost use Rattle.refusal.specs.Words.{taken, checked};
+ghost use Rattle.reassembly.specs.Record.{Fits, sameNumber, emptiedOf, emptyAs, freshRecord, openedOf, added, joinedBytes, isFirst, partOf, isAlone, aloneChecks, outcomeIn, severalOf, joinOf, joinIn};
 
 // The record: a message number or none, a fragment number, and up to 384 bytes, of which the first `len` are held.
 pub struct Record {
@@ -83,17 +84,6 @@ pub fn emptied(state: Record) -> Record
     empty(number, state.fragment)
 }
 
-// The record that an unfinished message's line is joined to: a first line starts it anew.
-fn opened(state: Record, fragment: Fragment) -> Record
-    ensures { λ r. ⌜ r ≡ openedOf state fragment ⌝ }
-{
-    if fragment.number == 1 {
-        let id = fragment.id;
-        return empty(id, 0);
-    }
-    state
-}
-
 // The bytes held, with the payload behind them.
 fn extend(bytes: [u8; 384], len: usize, payload: &[u8]) -> [u8; 384]
     requires { ⌜ len + length (now payload) ≤ 384 ⌝ }
@@ -135,28 +125,37 @@ fn too_long() -> Joined
     }
 }
 
-// A line of several, checked against `onto` and joined to it; `found` is the record as it was lent.
-fn join_several(
-    found: Record,
-    onto: Record,
-    fragment: Fragment,
-    part: Part,
-    payload: &[u8],
-) -> Joined
-    ensures { λ r. ⌜ joinIn r ≡ severalOf part found onto fragment (now (payload .entry)) ⌝ }
+// A first line of several, whatever the record was: it starts anew with the line's message number and with 0, so that neither 4 nor 5 is met.
+fn join_first(fragment: Fragment, payload: &[u8]) -> Joined
+    requires { ⌜ fragment .number ≡ 1 ⌝ }
+    ensures { λ r. ⌜ ((found : Record) → joinIn r ≡ severalOf Part.Unfinished found (openedOf found fragment) fragment (now (payload .entry))) ⌝ }
 {
-    let held = onto.number;
+    if 384 < payload.len() {
+        return too_long();
+    }
+    let id = fragment.id;
+    Joined {
+        state: add(empty(id, 0), fragment.number, payload),
+        outcome: Outcome::Taken(Part::Unfinished),
+    }
+}
+
+// A further line of several, checked against the record and joined to it.
+fn join_next(state: Record, fragment: Fragment, part: Part, payload: &[u8]) -> Joined
+    ensures { λ r. ⌜ joinIn r ≡ severalOf part state state fragment (now (payload .entry)) ⌝ }
+{
+    let held = state.number;
     let id = fragment.id;
     if !same_number(held, id) {
         return Joined {
-            state: found,
+            state: state,
             outcome: Outcome::Refused(Refusal::MessageNumber),
         };
     }
-    let due = onto.fragment as u16 + 1;
+    let due = state.fragment as u16 + 1;
     if fragment.number as u16 != due {
         return Joined {
-            state: found,
+            state: state,
             outcome: Outcome::Refused(Refusal::FragmentNumber),
         };
     }
@@ -164,41 +163,70 @@ fn join_several(
     if 384 < n {
         return too_long();
     }
-    if 384 - n < onto.len {
+    if 384 - n < state.len {
         return too_long();
     }
     Joined {
-        state: add(onto, fragment.number, payload),
+        state: add(state, fragment.number, payload),
         outcome: Outcome::Taken(part),
     }
 }
 
-// A line complete alone: the record stays.
-fn join_alone(state: Record, payload: &[u8]) -> Joined
-    ensures { λ r. ⌜ joinIn r ≡ aloneOf state (now (payload .entry)) ⌝ }
+// The kind of a line.
+fn part_of(fragment: Fragment) -> Part
+    ensures { λ r. ⌜ r ≡ partOf fragment ⌝ }
+{
+    if fragment.number < fragment.total {
+        return Part::Unfinished;
+    }
+    if fragment.total == 1 {
+        return Part::Alone;
+    }
+    Part::Last
+}
+
+// Whether a line is the first of an unfinished message.
+fn is_first(fragment: Fragment) -> bool
+    ensures { λ r. ⌜ r ≡ isFirst fragment ⌝ }
+{
+    if fragment.number < fragment.total {
+        return fragment.number == 1;
+    }
+    false
+}
+
+// Whether a line of this kind is complete alone.
+fn is_alone(part: Part) -> bool
+    ensures { λ r. ⌜ r ≡ isAlone part ⌝ }
+{
+    match part {
+        Part::Unfinished => false,
+        Part::Last => false,
+        Part::Alone => true,
+    }
+}
+
+// What becomes of a line complete alone; the record is not asked, and stays.
+fn alone(payload: &[u8]) -> Outcome
+    ensures { λ r. ⌜ outcomeIn r ≡ checked (aloneChecks (now (payload .entry))) (taken Part.Alone) ⌝ }
 {
     if 384 < payload.len() {
-        return Joined {
-            state: state,
-            outcome: Outcome::Refused(Refusal::PayloadTooLong),
-        };
+        return Outcome::Refused(Refusal::PayloadTooLong);
     }
-    Joined {
-        state: state,
-        outcome: Outcome::Taken(Part::Alone),
-    }
+    Outcome::Taken(Part::Alone)
 }
 
 // What a line does to the record. After a last line the record still holds the bytes that are handed out; `emptied` follows.
 pub fn join(state: Record, fragment: Fragment, payload: &[u8]) -> Joined
     ensures { λ r. ⌜ joinIn r ≡ joinOf state fragment (now (payload .entry)) ⌝ }
 {
-    if fragment.number < fragment.total {
-        let onto = opened(state, fragment);
-        return join_several(state, onto, fragment, Part::Unfinished, payload);
+    if is_first(fragment) {
+        return join_first(fragment, payload);
     }
-    if fragment.total == 1 {
-        return join_alone(state, payload);
+    let part = part_of(fragment);
+    if is_alone(part) {
+        let outcome = alone(payload);
+        return Joined { state, outcome };
     }
-    join_several(state, state, fragment, Part::Last, payload)
+    join_next(state, fragment, part, payload)
 }

@@ -1,4 +1,4 @@
--- The thirty-four numbers of a static data report, type 24, and the bytes of a message's texts. What does not apply is 0.
+-- The thirty-four numbers of a static data report, type 24, and the bytes of its texts. What does not apply is 0.
 use Prim.Native.Nat.{ℕ}
 use mathlib.Core.List.{List, [], _∷_, _++_}
 use lib.ListN.{replicate}

@@ -1,4 +1,4 @@
-// A static data report as 34 numbers (type 24), and a message's texts as 80 bytes.
+// A static data report as 34 numbers (type 24), and its texts as 80 bytes.
 use parsers::Text;
 use static_data_report::MessagePart;
 use static_data_report::PartB;
@@ -72,7 +72,7 @@ fn lengths(t: Texts) -> [u64; 4]
     ]
 }
 
-// The texts of a message, twenty bytes for each.
+// The texts of a static data report, twenty bytes for each.
 pub fn put_texts(out: &mut [u8], at: usize, t: Texts) -> usize
     ensures { λ r. ⌜ text r (now (out .exit)) ≡ put (text at (now (out .entry))) (textBytes t) ⌝ }
     ensures { λ _. ⌜ length (textBytes t) ≡ 80 ⌝ }
@@ -87,17 +87,11 @@ pub fn put_texts(out: &mut [u8], at: usize, t: Texts) -> usize
     put_text(out, c, callsign)
 }
 
-// A text, with the zeros of its unused places: all at once where it fits.
+// A text, with the zeros of its unused places.
 fn put_text(out: &mut [u8], at: usize, t: Text) -> usize
     ensures { λ r. ⌜ text r (now (out .exit)) ≡ put (text at (now (out .entry))) (t .bytes) ⌝ }
     ensures { λ _. ⌜ length (t .bytes) ≡ 20 ⌝ }
 {
     let held = t.bytes;
-    if at <= out.len() {
-        if 20 <= out.len() - at {
-            bytes::copy(&held, &mut out[at..]);
-            return at + 20;
-        }
-    }
     text_out::put_bytes(out, at, &held)
 }

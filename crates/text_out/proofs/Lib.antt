@@ -1,4 +1,5 @@
 pub mod Laws
 pub mod Strings
+pub mod Copied
 pub mod Decimals
 pub mod Signed

@@ -18,8 +18,21 @@ pub fn put_byte(out: &mut [u8], at: usize, b: u8) -> usize
     at
 }
 
-// A string of bytes.
+// A string of bytes: all at once where it fits.
 pub fn put_bytes(out: &mut [u8], at: usize, s: &[u8]) -> usize
+    ensures { λ r. ⌜ text r (now (out .exit)) ≡ put (text at (now (out .entry))) (now (s .entry)) ⌝ }
+{
+    if at <= out.len() {
+        if s.len() <= out.len() - at {
+            bytes::copy(s, &mut out[at..]);
+            return at + s.len();
+        }
+    }
+    put_some(out, at, s)
+}
+
+// A string of which some may not fit.
+fn put_some(out: &mut [u8], at: usize, s: &[u8]) -> usize
     ensures { λ r. ⌜ text r (now (out .exit)) ≡ put (text at (now (out .entry))) (now (s .entry)) ⌝ }
 {
     let mut p = at;

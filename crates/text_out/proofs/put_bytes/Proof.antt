@@ -1,64 +1,60 @@
--- `text_out::put_bytes` meets its contract: what is put so far and what is left are the whole. Assumes nothing.
+-- `text_out::put_bytes` meets its contract: all at once, or byte by byte. Assumes nothing.
 use native.Mathlib.Omega.{arith}
-use Prim.Native.Nat.{_-_}
-use mathlib.Core.Path.{_≡_, refl, sym, ap, _∙_}
-use lib.ListN.{length, drop}
-use Rattle.text_out.specs.Text.{Text, text, put}
-use Rattle.text_out.proofs.Laws.{put-length}
-use Rattle.text_out.proofs.Strings.{bytes-step, bytes-end}
+use mathlib.Core.Path.{refl}
+use Rattle.text_out.proofs.Copied.{copied-room, copied-put}
 use borrow.Author.Needs.{needs}
 use Rattle.text_out.proofs.put_bytes.Statement.{statement}
 use Rattle.text_out.proofs.put_bytes.Tie as tie
 
-abbrev Inv-loop : tie.InvT-loop
-Inv-loop out₀ at s p₀ i₀ out p i = (put (text p out) (drop i s) ≡ put (text at out₀) s) × (length out ≡ length out₀)
+sub-if2 : tie.Need-sub-if2
+sub-if2 c = search needs
 
-abbrev μ-loop : tie.MeasureT-loop
-μ-loop out₀ at s p₀ i₀ out p i = length s - i
+sub-copy : tie.Need-sub-copy
+sub-copy c = search needs
 
-loop-holds : tie.Need-loop-holds Inv-loop μ-loop
-loop-holds c = (refl, refl)
+part-copy-start : tie.Need-part-copy-start
+part-copy-start c = search needs
 
-shared-slice-read-put-byte : tie.Need-shared-slice-read-put-byte Inv-loop μ-loop
-shared-slice-read-put-byte c = search needs
+part-copy-end : tie.Need-part-copy-end
+part-copy-end c = search needs
 
-put-byte-requires : tie.Need-put-byte-requires Inv-loop μ-loop
-put-byte-requires c κs = search needs
+copy-requires : tie.Need-copy-requires
+copy-requires c κs =
+    let s = c .before .before .before .before .before in
+    copied-room (s .args .at) (s .args .out .now) (s .args .s .now) (omega (arith, c .before .before .if1 .taken, c .before .if2 .taken))
 
-add-i : tie.Need-add-i Inv-loop μ-loop
-add-i c = search needs
+add-result : tie.Need-add-result
+add-result c = search needs
 
-loop-less : tie.Need-loop-less Inv-loop μ-loop
-loop-less c = search needs
-
-loop-again : tie.Need-loop-again Inv-loop μ-loop
-loop-again c =
-    let s = c .before .before .before .before .before .before .before .before .before .args in
-    let l = c .before .before .before .before .before .before .loop in
-    let e = c .before .before .put-byte .ensures in (
-      bytes-step (text (l .p) (l .out)) _ _ (s .s .now) (l .i) (omega arith) e (l .inv .0),
-      ap (λ (t : Text). length (t .bytes)) e ∙ put-length (text (l .p) (l .out)) _ ∙ l .inv .1,
-    )
-
-same-length : tie.Need-same-length Inv-loop μ-loop
+same-length : tie.Need-same-length
 same-length c = search needs
 
-returns : tie.Need-returns Inv-loop μ-loop
+returns : tie.Need-returns
 returns c =
-    let l = c .before .loop in
-    sym (bytes-end (text (l .p) (l .out)) (c .before .before .before .before .args .s .now) (l .i) (omega arith)) ∙ l .inv .0
+    let s = c .before .before .before .before .before .before .before .before in
+    copied-put (s .args .at) (s .args .out .now) (s .args .s .now) (omega (arith, c .before .before .before .before .before .if1 .taken, c .before .before .before .before .if2 .taken)) _ (c .before .before .copy .ensures .1) _ refl
+
+put-some-requires : tie.Need-put-some-requires
+put-some-requires c κs = search needs
+
+same-length-2 : tie.Need-same-length-2
+same-length-2 c = search needs
+
+returns-2 : tie.Need-returns-2
+returns-2 c = search needs
 
 pub put-bytes-spec : {M : Type 1} → statement M
 put-bytes-spec =
     tie.close
     (tie.spec
-    Inv-loop
-    μ-loop
-    loop-holds
-    shared-slice-read-put-byte
-    put-byte-requires
-    add-i
-    loop-less
-    loop-again
+    sub-if2
+    sub-copy
+    part-copy-start
+    part-copy-end
+    copy-requires
+    add-result
     same-length
-    returns)
+    returns
+    put-some-requires
+    same-length-2
+    returns-2)
