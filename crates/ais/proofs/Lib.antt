@@ -1,4 +1,3 @@
-pub mod Laws
 pub mod Received
 pub mod Called
 pub mod Promises

@@ -4,29 +4,25 @@ use mathlib.Core.Bool.{Bool, true, false, _&&_}
 use mathlib.Core.List.{List, [], _∷_, _++_}
 use Prim.Native.Nat.{ℕ, _+_, _≤_}
 use native.Mathlib.Omega.{arith}
-use borrow.Author.Tests.{ltb-false}
+use borrow.Author.Tests.{le-ltb, ltb-false}
+use lib.Dec.{ltb}
 use lib.ListN.{length, take, drop, length-append}
 use lib.Seq.{length-take-le}
-use Rattle.refusal.specs.Words.{pick, within, taken, refused, numberIn, Check, checked, over}
-use Rattle.refusal.specs.Refusal.{rowOf}
-use Rattle.refusal.specs.declared.Refusal.{Refusal}
+use Rattle.refusal.specs.Words.{pick, within, Told, taken, refused, numberIn, Check, checked}
 use Rattle.refusal.specs.Order.{Passed}
 use Rattle.refusal.proofs.Order.{later, stops, passing, Each, told-each}
-use Rattle.messages.specs.Messages.{noMessage}
-use Rattle.messages.specs.declared.Message.{Message}
+use Rattle.armour.proofs.Answers.{fill-some}
 use Rattle.opening.specs.Opening.{messageChecks}
 use Rattle.sentence.specs.declared.AisSentence.{AisSentence}
-use Rattle.reassembly.specs.Record.{Join, joinIn, outcomeIn, added, joinedBytes, partOf, onto, severalChecks, checksBy, joinChecks, joinBy, joinOf}
+use Rattle.reassembly.specs.Record.{Join, joinIn, outcomeIn, emptiedOf, added, joinedBytes, partOf, isAlone, onto, aloneChecks, severalChecks, checksBy, joinChecks, joinBy, joinOf}
 use Rattle.reassembly.specs.declared.Record.{Record}
 use Rattle.reassembly.specs.declared.Fragment.{Fragment}
 use Rattle.reassembly.specs.declared.Joined.{Joined}
-use Rattle.reassembly.specs.declared.Outcome as joining
 use Rattle.reassembly.specs.declared.Part.{Part}
-use Rattle.reassembly.proofs.Laws.{join-checks, taken-part, taken-passed, handed-joined}
-use Rattle.ais.specs.Call.{Called, complete, unfinished, calledIn, fragmentOf, isComplete, progressOf, joinedOf, handedBy, recordChecks, kindOf, doneBy, leftBy, callWith}
-use Rattle.ais.specs.Parts.{Handed, refusedAs, takenAs, finishedOf, receivedOf}
-use Rattle.ais.specs.declared.Outcome.{Outcome}
-use Rattle.ais.specs.declared.Stepped.{Stepped}
+use Rattle.reassembly.proofs.Laws.{join-checks, taken-part, taken-passed, handed-joined, alone-join}
+use Rattle.answer.specs.Answer.{complete, unfinished, heardWith, completeOf, unfinishedOf}
+use Rattle.ais.specs.Call.{Called, fragmentOf, isComplete, progressOf, joinedOf, handedBy, recordChecks, kindOf, doneBy, leftBy, calledBy, callWith}
+use Rattle.ais.specs.Parts.{handing, receivingOf, Given, Handed, Large, finishedOf, receivedOf}
 
 -- the number told is 0 or one that a check bears: what holds of these holds of it
 pub number-each : {A : Type 0} (P : ℕ → Type 0) (cs : List Check) (a : A) → P 0 → Each P cs → P (numberIn (checked cs (taken a)))
@@ -118,74 +114,119 @@ module _ (d : List ℕ) (len : ℕ) (own : List ℕ) (h : len + length own ≤ l
   handed-fits =
       omega (arith, length-append (take len d ++ own) (drop (length (take len d ++ own)) d), length-append (take len d) own, length-take-le len d (omega arith))
 
--- the step, after the record's join j
-module _ (r : Record) (s : AisSentence) (own : List ℕ) (j : Joined) (e : joinIn j ≡ joinOf r (fragmentOf s) own) where
-  its-state : j .state ≡ joinedOf r s own
-  its-state = ap (λ (q : Join). q .after) e
+-- a payload that a line hands out passes 12, 7 and 6
+module _ (after : Record) (s : AisSentence) (handed payload bits : List ℕ) where
+  complete-by-line : (decode : Bool) → Handed (s .«fill_bit_count») handed → Large payload bits
+      → calledBy (completeOf s handed decode payload bits) after ≡ finishedOf after s handed decode payload bits
+  unfolding completeOf
+  complete-by-line true h l =
+      rw (le-ltb (length payload) 384 (l .room), le-ltb 384 (length handed) (h .few), le-ltb (length bits) 288 (l .bitRoom), fill-some handed (s .«fill_bit_count») (h .little) (λ e. omega (arith, h .some)))
+  complete-by-line false h l = rw (le-ltb (length payload) 384 (l .room), le-ltb 384 (length handed) (h .few))
 
-  its-told : outcomeIn (j .outcome) ≡ (joinOf r (fragmentOf s) own) .told
-  its-told = ap (λ (q : Join). q .told) e
+  unfinished-by-line : length handed ≤ 384 → 384 ≤ length payload
+      → calledBy (unfinishedOf s handed payload bits) after ≡ callWith (taken unfinished) s handed false after payload bits
+  unfolding unfinishedOf
+  unfinished-by-line h l = rw (le-ltb (length payload) 384 l, le-ltb 384 (length handed) h)
 
+-- the step, by what the record's rules tell of the line
+module _ (r : Record) (s : AisSentence) (own : List ℕ) where
   -- refused with 4, 5 or 6
-  pub receive-refused : (decode : Bool) (payload bits : List ℕ) (out : Stepped) (refusal : Refusal) → j .outcome ≡ joining.Outcome.Refused refusal → out ≡ refusedAs (j .state) refusal
-      → calledIn out payload bits ≡ receivedOf r s own decode payload bits
+  pub received-refused : (n : ℕ) (values : List ℕ) → (joinOf r (fragmentOf s) own) .told ≡ refused n values → (decode : Bool) (payload bits : List ℕ)
+      → receivedOf r s own decode payload bits ≡ calledBy (heardWith (refused n values) s own false payload bits) (joinedOf r s own)
   unfolding receivedOf
-  receive-refused decode payload bits out refusal w q =
-      let n = rowOf refusal .number in
-      let values = rowOf refusal .values in
-      let t : checked (joinChecks r (fragmentOf s) own) (taken (kindOf s)) ≡ refused n values = sym (join-checks r (fragmentOf s) own) ∙ sym its-told ∙ ap outcomeIn w in
+  received-refused n values e decode payload bits =
+      let t : checked (joinChecks r (fragmentOf s) own) (taken (kindOf s)) ≡ refused n values = sym (join-checks r (fragmentOf s) own) ∙ e in
       let u : checked (recordChecks r s own decode) (taken (progressOf (kindOf s))) ≡ refused n values = stops (joinChecks r (fragmentOf s) own) _ (kindOf s) (taken (progressOf (kindOf s))) n values t in
       let v : leftBy r (kindOf s) (joinedOf r s own) n ≡ joinedOf r s own =
       told-each (Stays r (kindOf s) (joinedOf r s own)) (joinChecks r (fragmentOf s) own) (kindOf s) n values (joins-stay r (kindOf s) (joinedOf r s own) (kindOf s) _ (fragmentOf s) own) t in
-      rw (q, u, v, its-state)
+      rw (u, v)
 
-  module _ (part : Part) (w : j .outcome ≡ joining.Outcome.Taken part) where
-    its-taken : (joinOf r (fragmentOf s) own) .told ≡ taken part
-    its-taken = sym its-told ∙ ap outcomeIn w
-
+  module _ (part : Part) (e : (joinOf r (fragmentOf s) own) .told ≡ taken part) where
     its-kind : kindOf s ≡ part
-    its-kind = taken-part r (fragmentOf s) own part its-taken
+    its-kind = taken-part r (fragmentOf s) own part e
 
     its-passed : Passed (joinChecks r (fragmentOf s) own)
-    its-passed = taken-passed r (fragmentOf s) own part its-taken
+    its-passed = taken-passed r (fragmentOf s) own part e
 
     -- what is left is the step of a line of this kind
-    received-by : (decode : Bool) (payload bits : List ℕ) → receivedOf r s own decode payload bits ≡ receivedBy part [] r (j .state) s own decode payload bits
+    received-by : (decode : Bool) (payload bits : List ℕ) → receivedOf r s own decode payload bits ≡ receivedBy part [] r (joinedOf r s own) s own decode payload bits
     unfolding receivedOf
     received-by decode payload bits =
         ap (λ (q : Part). receivedBy q (joinChecks r (fragmentOf s) own) r (joinedOf r s own) s own decode payload bits) its-kind
         ∙ passed-by r (joinedOf r s own) s own payload bits part (joinChecks r (fragmentOf s) own) decode its-passed
-        ∙ ap (λ (q : Record). receivedBy part [] r q s own decode payload bits) (sym its-state)
 
     -- a payload of its own that is handed out
-    pub own-handed : s .«fill_bit_count» ≤ 5 → 1 ≤ length own → Handed (s .«fill_bit_count») own
-    own-handed l o = record { little = l; some = o; few = passed-few (kindOf s) _ (fragmentOf s) own its-passed }
+    own-few : length own ≤ 384
+    own-few = passed-few (kindOf s) _ (fragmentOf s) own its-passed
 
-  pub receive-unfinished : (decode : Bool) (payload payload′ bits : List ℕ) (out : Stepped) (m : Message) → j .outcome ≡ joining.Outcome.Taken Part.Unfinished → m ≡ noMessage
-      → out ≡ takenAs (j .state) Outcome.Unfinished s own m → payload′ ≡ over own payload → calledIn out payload′ bits ≡ receivedOf r s own decode payload bits
-  receive-unfinished decode payload payload′ bits out m w n q p =
-      rw (q, n, p) (sym (received-by Part.Unfinished w decode payload bits ∙ unfinished-by r (j .state) s own payload bits decode))
+    own-handed : Given s own → Handed (s .«fill_bit_count») own
+    own-handed g = record { little = g .little; some = g .some; few = own-few }
 
-  pub receive-alone : (decode : Bool) (payload bits : List ℕ) → j .outcome ≡ joining.Outcome.Taken Part.Alone
-      → finishedOf (j .state) s own decode payload bits ≡ receivedOf r s own decode payload bits
-  receive-alone decode payload bits w = sym (received-by Part.Alone w decode payload bits ∙ alone-by r (j .state) s own payload bits decode)
+  module _ (decode : Bool) (payload bits : List ℕ) where
+    pub received-unfinished : (joinOf r (fragmentOf s) own) .told ≡ taken Part.Unfinished
+        → receivedOf r s own decode payload bits ≡ callWith (taken unfinished) s own false (joinedOf r s own) payload bits
+    received-unfinished e = received-by Part.Unfinished e decode payload bits ∙ unfinished-by r (joinedOf r s own) s own payload bits decode
 
-  module _ (w : j .outcome ≡ joining.Outcome.Taken Part.Last) where
-    pub receive-last : (decode : Bool) (payload bits : List ℕ) (emptied : Record) → emptied ≡ doneBy Part.Last (j .state)
-        → finishedOf emptied s (take (j .state .len) (j .state .bytes)) decode payload bits ≡ receivedOf r s own decode payload bits
-    receive-last decode payload bits emptied q = rw q (sym (received-by Part.Last w decode payload bits ∙ last-by r (j .state) s own payload bits decode))
+    pub received-alone : (joinOf r (fragmentOf s) own) .told ≡ taken Part.Alone
+        → receivedOf r s own decode payload bits ≡ finishedOf (joinedOf r s own) s own decode payload bits
+    received-alone e = received-by Part.Alone e decode payload bits ∙ alone-by r (joinedOf r s own) s own payload bits decode
 
-    module _ (b : length (r .bytes) ≡ 384) where
-      last-state : j .state ≡ added r (fragmentOf s .number) own
-      last-state = its-state ∙ last-after r (fragmentOf s) own (its-kind Part.Last w) (its-passed Part.Last w)
+    pub received-last : (joinOf r (fragmentOf s) own) .told ≡ taken Part.Last
+        → receivedOf r s own decode payload bits ≡ finishedOf (emptiedOf (joinedOf r s own)) s (take (joinedOf r s own .len) (joinedOf r s own .bytes)) decode payload bits
+    received-last e = received-by Part.Last e decode payload bits ∙ last-by r (joinedOf r s own) s own payload bits decode
 
-      held : r .len + length own ≤ length (r .bytes)
-      held = omega (arith, last-room r (fragmentOf s) own (its-kind Part.Last w) (its-passed Part.Last w))
+  -- the joined bytes of a last line
+  module _ (b : length (r .bytes) ≡ 384) (e : (joinOf r (fragmentOf s) own) .told ≡ taken Part.Last) where
+    last-state : joinedOf r s own ≡ added r (fragmentOf s .number) own
+    last-state = last-after r (fragmentOf s) own (its-kind Part.Last e) (its-passed Part.Last e)
 
-      pub last-fits : j .state .len ≤ length (j .state .bytes)
-      last-fits = rw last-state (handed-fits (r .bytes) (r .len) own held)
+    last-held : r .len + length own ≤ length (r .bytes)
+    last-held = omega (arith, last-room r (fragmentOf s) own (its-kind Part.Last e) (its-passed Part.Last e))
 
-      pub last-handed : s .«fill_bit_count» ≤ 5 → 1 ≤ length own → Handed (s .«fill_bit_count») (take (j .state .len) (j .state .bytes))
-      last-handed l o =
-          let n : length (take (j .state .len) (j .state .bytes)) ≡ r .len + length own = rw last-state (handed-length (r .bytes) (r .len) own held) in
-          record { little = l; some = omega arith; few = omega (arith, held) }
+    pub last-fits : joinedOf r s own .len ≤ length (joinedOf r s own .bytes)
+    last-fits = rw last-state (handed-fits (r .bytes) (r .len) own last-held)
+
+    last-handed : Given s own → Handed (s .«fill_bit_count») (take (joinedOf r s own .len) (joinedOf r s own .bytes))
+    last-handed g =
+        let n : length (take (joinedOf r s own .len) (joinedOf r s own .bytes)) ≡ r .len + length own = rw last-state (handed-length (r .bytes) (r .len) own last-held) in
+        record { little = g .little; some = omega (arith, g .some); few = omega (arith, last-held) }
+
+  -- of a line's sentence and payload, what the code takes is what document 01 orders
+  pub receiving-line : (decode : Bool) (payload bits : List ℕ) → length (r .bytes) ≡ 384 → Given s own → Large payload bits
+      → receivingOf r s own decode payload bits ≡ receivedOf r s own decode payload bits
+  unfolding receivingOf
+  receiving-line decode payload bits b g l = go (joinOf r (fragmentOf s) own .told) refl where
+    go : (t : Told Part) → (joinOf r (fragmentOf s) own) .told ≡ t → handing t (joinedOf r s own) s own decode payload bits ≡ receivedOf r s own decode payload bits
+    go (refused n values) e = sym (received-refused n values e decode payload bits)
+    go (taken Part.Unfinished) e =
+        unfinished-by-line (joinedOf r s own) s own payload bits (own-few Part.Unfinished e) (l .room) ∙ sym (received-unfinished decode payload bits e)
+    go (taken Part.Alone) e = complete-by-line (joinedOf r s own) s own payload bits decode (own-handed Part.Alone e g) l ∙ sym (received-alone decode payload bits e)
+    go (taken Part.Last) e = complete-by-line (emptiedOf (joinedOf r s own)) s _ payload bits decode (last-handed b e g) l ∙ sym (received-last decode payload bits e)
+
+  -- one that is complete alone is handed out whatever the record is
+  module _ (decode : Bool) (payload bits : List ℕ) (l : 384 ≤ length payload) where
+    alone-long : ltb 384 (length own) ≡ true → calledBy (completeOf s own decode payload bits) r ≡ calledBy (heardWith (refused 6 []) s own false payload bits) r
+    unfolding completeOf
+    alone-long e = rw (le-ltb (length payload) 384 l, e)
+
+    alone-handing : (b : Bool) → ltb 384 (length own) ≡ b → calledBy (completeOf s own decode payload bits) r ≡ handing (pick b (refused 6 []) (taken Part.Alone)) r s own decode payload bits
+    alone-handing true e = alone-long e
+    alone-handing false e = refl
+
+    pub alone-receiving : isAlone (kindOf s) ≡ true → calledBy (completeOf s own decode payload bits) r ≡ receivingOf r s own decode payload bits
+    unfolding receivingOf
+    alone-receiving k =
+        alone-handing (ltb 384 (length own)) refl
+        ∙ ap (λ (j : Join). handing (j .told) (j .after) s own decode payload bits) (sym (alone-join r (fragmentOf s) own k))
+
+-- the code's join j: what is handed out by it
+module _ (r : Record) (s : AisSentence) (own : List ℕ) (j : Joined) (e : joinIn j ≡ joinOf r (fragmentOf s) own) where
+  pub receiving-by : (t : Told Part) → outcomeIn (j .outcome) ≡ t → (decode : Bool) (payload bits : List ℕ)
+      → handing t (j .state) s own decode payload bits ≡ receivingOf r s own decode payload bits
+  unfolding receivingOf
+  receiving-by t w decode payload bits = rw (sym w) (ap (λ (q : Join). handing (q .told) (q .after) s own decode payload bits) e)
+
+  pub last-join-fits : length (r .bytes) ≡ 384 → outcomeIn (j .outcome) ≡ taken Part.Last → j .state .len ≤ length (j .state .bytes)
+  last-join-fits b w =
+      let t : (joinOf r (fragmentOf s) own) .told ≡ taken Part.Last = sym (ap (λ (q : Join). q .told) e) ∙ w in
+      subst (λ (q : Record). q .len ≤ length (q .bytes)) (sym (ap (λ (q : Join). q .after) e)) (last-fits r s own b t)

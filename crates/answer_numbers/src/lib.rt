@@ -1,5 +1,5 @@
 // An answer as its code, 50 numbers (the values of its outcome, its sentence, its message) and 80 bytes of text.
-use ais::Answer;
+use answer::Answer;
 ghost use mathlib.Core.Path.{_≡_};
 ghost use lib.ListN.{length};
 ghost use Rattle.text_out.specs.Text.{text, put};

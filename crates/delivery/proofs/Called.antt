@@ -9,20 +9,17 @@ use lib.Seq.{take-append-seam}
 use Rattle.refusal.specs.Words.{Told, taken, over}
 use Rattle.refusal.specs.Refusal.{told, rowOf}
 use Rattle.refusal.specs.declared.Refusal.{Refusal}
-use Rattle.messages.specs.Messages.{noMessage}
 use Rattle.sentence.specs.Written.{lineText, Writable}
 use Rattle.sentence.specs.declared.Number.{Number}
 use Rattle.sentence.proofs.ReadBack.{read-back, payload-back, text-short}
-use Rattle.reassembly.specs.Record.{emptyAs, freshRecord, emptiedOf, joinOf}
+use Rattle.reassembly.specs.Record.{Join, emptyAs, freshRecord, emptiedOf, joinOf}
 use Rattle.reassembly.specs.declared.Record.{Record}
 use Rattle.reassembly.specs.declared.Fragment.{Fragment}
 use Rattle.reassembly.specs.declared.Part.{Part}
-use Rattle.reassembly.specs.declared.Outcome as joining
 use Rattle.ais.specs.Call.{Called, fragmentOf}
-use Rattle.ais.specs.Parts.{refusedAs, takenAs, receivedOf}
-use Rattle.ais.specs.declared.Outcome.{Outcome}
+use Rattle.ais.specs.Parts.{finishedOf, receivedOf}
 use Rattle.ais.proofs.Called.{to-received}
-use Rattle.ais.proofs.Received.{receive-refused, receive-unfinished, receive-alone, receive-last}
+use Rattle.ais.proofs.Received.{received-refused, received-unfinished, received-alone, received-last}
 use Rattle.writer.specs.Message.{Message, Sendable, linesIn, partsOf, textOf}
 use Rattle.writer.proofs.Sendable.{writable}
 use Rattle.delivery.specs.Delivery.{Answer, unfinished, complete}
@@ -59,32 +56,40 @@ module _ (lent : ℕ → Lent) (p : ℕ) (r : Record) (m : Message) (s : Sendabl
 
   -- the ways out, by what the record's rules make of the line
   module _ (f : Fragment) (e : fragmentOf (said m i) ≡ f) (after : Record) where
-    its-join : (t : Told Part) → joinOf r f (own m i) ≡ record { told = t; after = after } → record { told = t; after = after } ≡ joinOf r (fragmentOf (said m i)) (own m i)
-    its-join t q = sym (rw e q)
+    its-join : (t : Told Part) → joinOf r f (own m i) ≡ record { told = t; after = after } → joinOf r (fragmentOf (said m i)) (own m i) ≡ record { told = t; after = after }
+    its-join t q = rw e q
+
+    its-told : (t : Told Part) → joinOf r f (own m i) ≡ record { told = t; after = after } → (joinOf r (fragmentOf (said m i)) (own m i)) .told ≡ t
+    its-told t q = ap (λ (j : Join). j .told) (its-join t q)
+
+    its-after : (t : Told Part) → joinOf r f (own m i) ≡ record { told = t; after = after } → (joinOf r (fragmentOf (said m i)) (own m i)) .after ≡ after
+    its-after t q = ap (λ (j : Join). j .after) (its-join t q)
 
     to-refused : (refusal : Refusal) → joinOf r f (own m i) ≡ record { told = told refusal; after = after } → onCall lent p r (line m i) ≡ gives (Answer.refused (rowOf refusal .number)) after
     to-refused refusal q =
         call-is
-        ∙ ap seen (sym (receive-refused r (said m i) (own m i) (record { outcome = joining.Outcome.Refused refusal; state = after }) (its-join (told refusal) q)
-        false (lent p .payload) (lent p .bits) (refusedAs after refusal) refusal refl refl))
+        ∙ ap seen (received-refused r (said m i) (own m i) _ _ (its-told (told refusal) q) false (lent p .payload) (lent p .bits))
+        ∙ ap (λ (a : Record). gives (Answer.refused (rowOf refusal .number)) a) (its-after (told refusal) q)
 
     pub to-unfinished : joinOf r f (own m i) ≡ record { told = taken Part.Unfinished; after = after } → onCall lent p r (line m i) ≡ gives unfinished after
     to-unfinished q =
         call-is
-        ∙ ap seen (sym (receive-unfinished r (said m i) (own m i) (record { outcome = joining.Outcome.Taken Part.Unfinished; state = after }) (its-join (taken Part.Unfinished) q)
-        false (lent p .payload) (over (own m i) (lent p .payload)) (lent p .bits) (takenAs after Outcome.Unfinished (said m i) (own m i) noMessage) noMessage refl refl refl refl))
+        ∙ ap seen (received-unfinished r (said m i) (own m i) false (lent p .payload) (lent p .bits) (its-told (taken Part.Unfinished) q))
+        ∙ ap (λ (a : Record). gives unfinished a) (its-after (taken Part.Unfinished) q)
 
     pub to-last : joinOf r f (own m i) ≡ record { told = taken Part.Last; after = after }
         → onCall lent p r (line m i) ≡ gives (complete (take (after .len) (after .bytes)) (said m i .«fill_bit_count»)) (emptiedOf after)
     to-last q =
         call-is
-        ∙ ap seen (sym (receive-last r (said m i) (own m i) (record { outcome = joining.Outcome.Taken Part.Last; state = after }) (its-join (taken Part.Last) q) refl false (lent p .payload) (lent p .bits) (emptiedOf after) refl))
+        ∙ ap seen (received-last r (said m i) (own m i) false (lent p .payload) (lent p .bits) (its-told (taken Part.Last) q))
+        ∙ ap (λ (a : Record). seen (finishedOf (emptiedOf a) (said m i) (take (a .len) (a .bytes)) false (lent p .payload) (lent p .bits))) (its-after (taken Part.Last) q)
         ∙ handed-read (take (after .len) (after .bytes)) (lent p .payload) (said m i .«fill_bit_count») (emptiedOf after)
 
     to-alone : joinOf r f (own m i) ≡ record { told = taken Part.Alone; after = after } → onCall lent p r (line m i) ≡ gives (complete (own m i) (said m i .«fill_bit_count»)) after
     to-alone q =
         call-is
-        ∙ ap seen (sym (receive-alone r (said m i) (own m i) (record { outcome = joining.Outcome.Taken Part.Alone; state = after }) (its-join (taken Part.Alone) q) false (lent p .payload) (lent p .bits) refl))
+        ∙ ap seen (received-alone r (said m i) (own m i) false (lent p .payload) (lent p .bits) (its-told (taken Part.Alone) q))
+        ∙ ap (λ (a : Record). seen (finishedOf a (said m i) (own m i) false (lent p .payload) (lent p .bits))) (its-after (taken Part.Alone) q)
         ∙ handed-read (own m i) (lent p .payload) (said m i .«fill_bit_count») after
 
 -- what is seen of a last line

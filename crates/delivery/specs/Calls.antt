@@ -5,7 +5,8 @@ use mathlib.Core.Bool.{false}
 use mathlib.Core.List.{List, [], _∷_, map}
 use lib.ListN.{length, take}
 use Rattle.refusal.specs.Words.{Told}
-use Rattle.ais.specs.Call.{Progress, Called, calledOf}
+use Rattle.answer.specs.Answer.{Progress}
+use Rattle.ais.specs.Call.{Called, calledOf}
 use Rattle.reassembly.specs.Record.{freshRecord}
 use Rattle.reassembly.specs.declared.Record.{Record}
 use Rattle.writer.specs.Message.{Message, textOf}

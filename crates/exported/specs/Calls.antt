@@ -1,5 +1,6 @@
 -- What the exported calls give back, in numbers and bytes: each is one value of what came in, in refusals too.
 use Prim.Native.Nat.{ℕ}
+use mathlib.Core.Path.{_≡_}
 use mathlib.Core.Bool.{Bool, _||_}
 use mathlib.Core.List.{List, [], _∷_}
 use lib.Dec.{ltb}
@@ -8,7 +9,9 @@ use Rattle.refusal.specs.Words.{pick, numberIn, over, left}
 use Rattle.armour.specs.Armour.{unarmored}
 use Rattle.armour.specs.Unarmor.{answerOf}
 use Rattle.reassembly.specs.Record.{freshRecord}
-use Rattle.ais.specs.Call.{Called, calledOf}
+use Rattle.answer.specs.declared.Answer.{Answer}
+use Rattle.ais.specs.Call.{Called, calledIn, calledOf}
+use Rattle.ais.specs.Parts.{stepped}
 use Rattle.record_bytes.specs.Bytes.{tooFew, recordIn, recordBytes}
 use Rattle.sentence_numbers.specs.Sentence.{codeOf, countOf}
 use Rattle.message_numbers.specs.Message.{messageTexts}
@@ -41,6 +44,11 @@ readIn code state payload bits numbers texts = record { code = code; state = sta
 -- 12 where what is lent for the record or the answer is too short: 400 bytes, 50 numbers, 80 bytes of text
 abbrev pub tooShort : List ℕ → List ℕ → List ℕ → Bool
 tooShort state numbers texts = tooFew state || (ltb (length numbers) 50 || ltb (length texts) 80)
+
+-- a call's answer, the record's bytes and both buffers after it
+pub record Leaves (c : Called) (state : List ℕ) (a : Answer) (state′ payload′ bits′ : List ℕ) : Type 0 where
+  pub answered : calledIn (stepped (c .after) a) payload′ bits′ ≡ c
+  pub stored : state′ ≡ over (recordBytes (c .after)) state
 
 -- a call of the reader in numbers and bytes: each stands first in what is lent for it
 abbrev pub flattened : Called → List ℕ → List ℕ → List ℕ → Read

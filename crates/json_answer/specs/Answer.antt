@@ -6,8 +6,9 @@ use lib.ListN.{replicate}
 use Rattle.refusal.specs.Words.{Told, taken, refused}
 use Rattle.messages.specs.declared.Message.{Message}
 use Rattle.reassembly.specs.declared.Record.{Record}
-use Rattle.ais.specs.Call.{Progress, complete, unfinished, Called, outcomeIn, calledOf}
-use Rattle.ais.specs.declared.Answer.{Answer}
+use Rattle.answer.specs.Answer.{Progress, complete, unfinished, outcomeIn}
+use Rattle.ais.specs.Call.{Called, calledOf}
+use Rattle.answer.specs.declared.Answer.{Answer}
 use Rattle.text_out.specs.Text.{Text, text, put}
 use Rattle.json_refused.specs.Refused.{refusedLine}
 use Rattle.json_message.specs.Message.{messageJson}

@@ -1,6 +1,6 @@
 // What a line of the input is answered with, as a line of JSON: an object for a complete message or for a refused line, and nothing for an unfinished one.
-use ais::Answer;
-use ais::Outcome;
+use answer::Answer;
+use answer::Outcome;
 use reassembly::Record;
 ghost use mathlib.Core.Path.{_≡_};
 ghost use Rattle.text_out.specs.Text.{text, put};

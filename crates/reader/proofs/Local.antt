@@ -29,9 +29,9 @@ use denote.Struct.Laws as LL
 use Rattle.reassembly.specs.declared.Record.{Record}
 use Rattle.reassembly.proofs.Record as T
 use Rattle.reassembly.proofs.Record.Laws as T′
-use Rattle.ais.specs.declared.Answer.{Answer}
-use Rattle.ais.proofs.Answer as N
-use Rattle.ais.proofs.Answer.Laws as N′
+use Rattle.answer.specs.declared.Answer.{Answer}
+use Rattle.answer.proofs.Answer as N
+use Rattle.answer.proofs.Answer.Laws as N′
 
 -- the record's type
 abbrev pub R : RattleType

@@ -1,6 +1,6 @@
 // Reading a line over a record that the caller lends (sentence.rs, `AisParser::parse` over `&mut self`), and for programs.
-use ais::Answer;
 use ais::Stepped;
+use answer::Answer;
 use reassembly::Record;
 ghost use mathlib.Core.Path.{_≡_};
 ghost use Rattle.ais.specs.Call.{calledIn, calledOf};

@@ -3,7 +3,9 @@ use reassembly::Record;
 use sentence::Number;
 ghost use mathlib.Core.Path.{_≡_};
 ghost use mathlib.Core.List.{[], _∷_};
-ghost use Rattle.record_bytes.specs.Bytes.{littleOf, numberBy, headBytes, loadedOf, storedOf};
+ghost use Prim.Native.Nat.{_≤_};
+ghost use lib.ListN.{length, take, drop};
+ghost use Rattle.record_bytes.specs.Bytes.{littleOf, numberBy, headBy, loadedOf, storedOf};
 
 // The number of eight bytes, the lowest first.
 fn eight(a: u8, b: u8, c: u8, d: u8, e: u8, f: u8, g: u8, h: u8) -> usize
@@ -25,15 +27,12 @@ fn number_by(there: u8, n: u8) -> Number
     Number::Of(n)
 }
 
-// The record in these bytes, whatever they are; a fresh one where they are too few.
-pub fn load(state: &[u8]) -> Record
-    ensures { λ r. ⌜ r ≡ loadedOf (now (state .entry)) ⌝ }
+// The length in a record's bytes.
+fn length_in(state: &[u8]) -> usize
+    requires { ⌜ 16 ≤ length (now state) ⌝ }
+    ensures { λ r. ⌜ r ≡ littleOf (take 8 (drop 8 (now (state .entry)))) ⌝ }
 {
-    if state.len() < 400 {
-        return reassembly::fresh();
-    }
-    let number = number_by(state[0], state[1]);
-    let len = eight(
+    eight(
         state[8],
         state[9],
         state[10],
@@ -42,7 +41,18 @@ pub fn load(state: &[u8]) -> Record
         state[13],
         state[14],
         state[15],
-    );
+    )
+}
+
+// The record in these bytes, whatever they are; a fresh one where they are too few.
+pub fn load(state: &[u8]) -> Record
+    ensures { λ r. ⌜ r ≡ loadedOf (now (state .entry)) ⌝ }
+{
+    if state.len() < 400 {
+        return reassembly::fresh();
+    }
+    let number = number_by(state[0], state[1]);
+    let len = length_in(state);
     let mut held = [0u8; 384];
     bytes::copy(&state[16..400], &mut held);
     Record {
@@ -54,12 +64,10 @@ pub fn load(state: &[u8]) -> Record
 }
 
 // The first sixteen bytes of a record.
-fn head(r: Record) -> [u8; 16]
-    ensures { λ b. ⌜ b ≡ headBytes r ⌝ }
+fn head(number: Number, fragment: u8, len: usize) -> [u8; 16]
+    ensures { λ b. ⌜ b ≡ headBy number fragment len ⌝ }
 {
-    let number = r.number;
-    let fragment = r.fragment;
-    let n = r.len;
+    let n = len;
     let a = (n % 256) as u8;
     let n = n / 256;
     let b = (n % 256) as u8;
@@ -88,8 +96,22 @@ pub fn store(r: Record, state: &mut [u8])
     if state.len() < 400 {
         return;
     }
-    let first = head(r);
+    let number = r.number;
+    let first = head(number, r.fragment, r.len);
     let held = r.bytes;
     bytes::copy(&first, state);
     bytes::copy(&held, &mut state[16..]);
+}
+
+// Writes the record in these bytes anew, as `store` would after `load`: its 384 bytes stand there already.
+pub fn keep(state: &mut [u8])
+    ensures { λ _. ⌜ now (state .exit) ≡ storedOf (loadedOf (now (state .entry))) (now (state .entry)) ⌝ }
+{
+    if state.len() < 400 {
+        return;
+    }
+    let number = number_by(state[0], state[1]);
+    let len = length_in(state);
+    let first = head(number, state[2], len);
+    bytes::copy(&first, state);
 }

@@ -7,9 +7,9 @@ use Rattle.sentence.specs.declared.TalkerId.{TalkerId}
 use Rattle.sentence.specs.declared.AisReportType.{AisReportType}
 use Rattle.sentence.specs.declared.Number.{Number}
 use Rattle.sentence.specs.declared.Channel.{Channel}
-use Rattle.ais.specs.Call.{Progress, complete, unfinished}
-use Rattle.ais.specs.declared.TrueType.{TrueType}
-use Rattle.ais.specs.declared.Sentence.{Sentence}
+use Rattle.answer.specs.Answer.{Progress, complete, unfinished}
+use Rattle.answer.specs.declared.TrueType.{TrueType}
+use Rattle.answer.specs.declared.Sentence.{Sentence}
 use Rattle.numbers.specs.Optional.{absent, present}
 use Rattle.numbers.specs.declared.Optional.{Optional}
 

@@ -1,7 +1,7 @@
 // What a call answers as its code and values, and a sentence as 14 numbers.
-use ais::Outcome;
-use ais::Sentence;
-use ais::TrueType;
+use answer::Outcome;
+use answer::Sentence;
+use answer::TrueType;
 use armour::Unarmored;
 use numbers::Optional;
 use refusal::Refusal;
@@ -12,7 +12,7 @@ use sentence::TalkerId;
 ghost use mathlib.Core.Path.{_≡_};
 ghost use Rattle.refusal.specs.Words.{numberIn};
 ghost use Rattle.armour.specs.Unarmor.{answered};
-ghost use Rattle.ais.specs.Call.{outcomeIn};
+ghost use Rattle.answer.specs.Answer.{outcomeIn};
 ghost use Rattle.sentence_numbers.specs.Sentence.{codeOf, valuesOf, countOf, talkerNumber, reportNumber, idIn, channelIn, typeIn, sentenceNumbers};
 
 // The code of an outcome.

@@ -4,7 +4,8 @@ use mathlib.Core.Bool.{Bool}
 use mathlib.Core.List.{List, _++_}
 use Rattle.refusal.specs.Words.{pick, Told, taken, refused}
 use Rattle.armour.specs.Armour.{size}
-use Rattle.ais.specs.Call.{Called, Progress, complete, unfinished}
+use Rattle.answer.specs.Answer.{Progress, complete, unfinished}
+use Rattle.ais.specs.Call.{Called}
 use Rattle.text_out.specs.Text.{ascii}
 use Rattle.show.specs.Shown.{refusalShown}
 use Rattle.shown_record.specs.Record.{recordShown}

@@ -1,6 +1,6 @@
 // What a call of the reader gives back, as the comparing protocol shows it: the answer, KEPT, and the record.
-use ais::Outcome;
 use ais::Stepped;
+use answer::Outcome;
 ghost use mathlib.Core.Path.{_≡_};
 ghost use Rattle.ais.specs.Call.{calledIn};
 ghost use Rattle.text_out.specs.Text.{text, put};

@@ -7,8 +7,8 @@ use Rattle.refusal.specs.Words.{pick}
 use Rattle.sentence.specs.declared.TalkerId.{TalkerId}
 use Rattle.sentence.specs.declared.AisReportType.{AisReportType}
 use Rattle.sentence.specs.declared.Channel.{Channel}
-use Rattle.ais.specs.declared.TrueType.{TrueType}
-use Rattle.ais.specs.declared.Sentence.{Sentence}
+use Rattle.answer.specs.declared.TrueType.{TrueType}
+use Rattle.answer.specs.declared.Sentence.{Sentence}
 use Rattle.text_out.specs.Text.{ascii}
 use Rattle.shown_values.specs.Values.{number, absent}
 use Rattle.shown_record.specs.Record.{idShown}

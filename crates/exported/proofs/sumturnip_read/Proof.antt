@@ -6,27 +6,21 @@ use Rattle.exported.proofs.sumturnip_read.Tie as tie
 
 returns : tie.Need-returns
 returns c =
-    let s = c .before .before .before .before .before .before .before .args in
-    record-short (s .state .now) (s .line .now) (s .decode) (s .payload .now) (s .bits .now) (s .answer .now) (s .texts .now) (c .if1 .taken)
+    let a = c .before .before .before .before .before .before .before .args in
+    record-short (a .state .now) (a .line .now) (a .decode) (a .payload .now) (a .bits .now) (a .answer .now) (a .texts .now) (c .if1 .taken)
 
 returns-2 : tie.Need-returns-2
 returns-2 c =
-    let s = c .before .before .before .before .before .before .before .before .args in
-    numbers-short (s .state .now) (s .line .now) (s .decode) (s .payload .now) (s .bits .now) (s .answer .now) (s .texts .now) (c .before .if1 .left) (c .if2 .taken)
+    let a = c .before .before .before .before .before .before .before .before .args in
+    numbers-short (a .state .now) (a .line .now) (a .decode) (a .payload .now) (a .bits .now) (a .answer .now) (a .texts .now) (c .before .if1 .left) (c .if2 .taken)
 
 returns-3 : tie.Need-returns-3
 returns-3 c =
-    let s = c .before .before .before .before .before .before .before .before .before .args in
-    texts-short (s .state .now) (s .line .now) (s .decode) (s .payload .now) (s .bits .now) (s .answer .now) (s .texts .now) (c .before .before .if1 .left) (c .before .if2 .left) (c .if3 .taken)
+    let a = c .before .before .before .before .before .before .before .before .before .args in
+    texts-short (a .state .now) (a .line .now) (a .decode) (a .payload .now) (a .bits .now) (a .answer .now) (a .texts .now) (c .before .before .if1 .left) (c .before .if2 .left) (c .if3 .taken)
 
-load-requires : tie.Need-load-requires
-load-requires c κs = search needs
-
-step-requires : tie.Need-step-requires
-step-requires c κs = search needs
-
-store-requires : tie.Need-store-requires
-store-requires c κs = search needs
+read-line-requires : tie.Need-read-line-requires
+read-line-requires c κs = search needs
 
 tell-requires : tie.Need-tell-requires
 tell-requires c κs = search needs
@@ -48,11 +42,9 @@ same-length-5 c = search needs
 
 returns-4 : tie.Need-returns-4
 returns-4 c =
-    let s = c .before .before .before .before .before .before .before .before .before .before .before .before .before .before .before .before .before .before .before .before .before .before .before .before .before .before .before .before .before .args in
+    let a = c .before .before .before .before .before .before .before .before .before .before .before .before .before .before .before .before .before .before .before .before .before .before .before .before .before .before .args in
     let t = c .before .before .before .before .tell .ensures in
-    read-flattened (s .state .now) (s .line .now) (s .decode) (s .payload .now) (s .bits .now) (s .answer .now) (s .texts .now)
-    (c .before .before .before .before .before .before .before .before .before .before .before .before .before .before .before .before .before .before .before .before .before .before .if1 .left) (c .before .before .before .before .before .before .before .before .before .before .before .before .before .before .before .before .before .before .before .before .before .if2 .left) (c .before .before .before .before .before .before .before .before .before .before .before .before .before .before .before .before .before .before .before .before .if3 .left) (c .before .before .before .before .before .before .before .before .before .before .before .before .before .before .before .before .before .before .load .ensures) (c .before .before .before .before .before .before .before .before .before .before .before .before .before .before .before .step .result) (c .before .before .before .before .before .before .before .before .before .before .before .before .before .before .before .step .ensures)
-    (c .before .before .before .before .before .before .before .before .before .store .ensures) (t .0) (t .1)
+    read-flattened (a .state .now) (a .line .now) (a .decode) (a .payload .now) (a .bits .now) (a .answer .now) (a .texts .now) (c .before .before .before .before .before .before .before .before .before .before .before .before .before .before .before .before .before .before .before .if1 .left) (c .before .before .before .before .before .before .before .before .before .before .before .before .before .before .before .before .before .before .if2 .left) (c .before .before .before .before .before .before .before .before .before .before .before .before .before .before .before .before .before .if3 .left) (c .before .before .before .before .before .before .before .before .before .before .before .before .before .read-line .result) (c .before .before .before .before .before .before .before .before .before .before .before .before .before .read-line .ensures) (t .0) (t .1)
 
 pub sumturnip-read-spec : {M : Type 1} → statement M
 sumturnip-read-spec =
@@ -61,9 +53,7 @@ sumturnip-read-spec =
     returns
     returns-2
     returns-3
-    load-requires
-    step-requires
-    store-requires
+    read-line-requires
     tell-requires
     same-length
     same-length-2

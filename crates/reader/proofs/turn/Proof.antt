@@ -48,13 +48,13 @@ use denote.Signature.{Slot, plain, shrSliceOf}
 use Rattle.ais.specs.Call.{Called, calledIn, calledOf}
 use Rattle.reassembly.specs.declared.Record.{Record}
 use Rattle.ais.specs.declared.Stepped.{Stepped}
-use Rattle.ais.specs.declared.Answer.{Answer}
+use Rattle.answer.specs.declared.Answer.{Answer}
 use Rattle.reassembly.proofs.Record as T
 use Rattle.reassembly.proofs.Record.Laws as T′
 use Rattle.ais.proofs.Stepped as S
 use Rattle.ais.proofs.Stepped.Laws as S′
-use Rattle.ais.proofs.Answer as N
-use Rattle.ais.proofs.Answer.Laws as N′
+use Rattle.answer.proofs.Answer as N
+use Rattle.answer.proofs.Answer.Laws as N′
 use Rattle.reader.proofs.Local.{R, mach, answered, recordRef, byteRef, slice, Rest, ref, RestVals, restVals, lies-in, lies-out}
 use Rattle.reader.proofs.read as read
 use Rattle.reader.proofs.read.Symbol as read-def
