@@ -8,12 +8,13 @@ use static_data_report::Reported;
 use static_data_report::StaticDataReport;
 use static_data_report::Texts;
 ghost use mathlib.Core.Path.{_≡_};
+ghost use mathlib.Core.Bool.{false};
 ghost use Rattle.position_report.specs.Table.{positionTable};
 ghost use Rattle.position_report.specs.Report.{positionOf};
 ghost use Rattle.static_data_report.specs.StaticData.{staticDataOf};
 ghost use Rattle.interrogation.specs.Interrogation.{interrogatedOf};
 ghost use Rattle.messages.specs.Messages.{noMessage, positionIn, staticIn, askedIn, endsPosition, endsStatic, endsAsked, answered, decodedOf};
-ghost use Rattle.messages.specs.Parts.{refusedBy, endingOr, decodingBy};
+ghost use Rattle.messages.specs.Parts.{refusedBy, endingOr, unreadBy, decodingBy};
 
 // What a message tells. A static data report's texts and an interrogation's lists stand beside this enum, in `Message`.
 pub enum AisMessage {
@@ -65,23 +66,30 @@ fn refused(refusal: Refusal) -> Decoded
     }
 }
 
+// A message that is taken, of its parts.
+fn taken(content: AisMessage, texts: Texts, interrogation: Interrogation) -> Decoded
+    ensures { λ r. ⌜ answered r ≡ endingOr false (record { content = content; texts = texts; interrogation = interrogation }) ⌝ }
+{
+    Decoded {
+        outcome: Outcome::Taken,
+        message: Message {
+            content: content,
+            texts: texts,
+            interrogation: interrogation,
+        },
+    }
+}
+
 // Types 1 to 3.
 fn parse_position(bytes: &[u8]) -> Decoded
     ensures { λ r. ⌜ answered r ≡ endingOr (endsPosition (positionOf positionTable (now (bytes .entry)))) (positionIn (positionOf positionTable (now (bytes .entry)))) ⌝ }
 {
     match position_report::parse(bytes) {
-        Position::Short => refused(Refusal::Short),
+        Position::Short => return refused(Refusal::Short),
         Position::Report(report) => {
             let texts = static_data_report::no_texts();
             let interrogation = interrogation::no_interrogation();
-            Decoded {
-                outcome: Outcome::Taken,
-                message: Message {
-                    content: AisMessage::PositionReport(report),
-                    texts: texts,
-                    interrogation: interrogation,
-                },
-            }
+            return taken(AisMessage::PositionReport(report), texts, interrogation);
         }
     }
 }
@@ -91,20 +99,16 @@ fn parse_static(bytes: &[u8]) -> Decoded
     ensures { λ r. ⌜ answered r ≡ endingOr (endsStatic (staticDataOf (now (bytes .entry)) .report)) (staticIn (staticDataOf (now (bytes .entry)) .report) (staticDataOf (now (bytes .entry)) .texts)) ⌝ }
 {
     let found = static_data_report::parse(bytes);
-    let texts = found.texts;
     let reported = found.report;
     match reported {
-        Reported::Short => refused(Refusal::Short),
+        Reported::Short => return refused(Refusal::Short),
         Reported::Report(report) => {
             let interrogation = interrogation::no_interrogation();
-            Decoded {
-                outcome: Outcome::Taken,
-                message: Message {
-                    content: AisMessage::StaticDataReport(report),
-                    texts: texts,
-                    interrogation: interrogation,
-                },
-            }
+            return taken(
+                AisMessage::StaticDataReport(report),
+                found.texts,
+                interrogation,
+            );
         }
     }
 }
@@ -114,21 +118,25 @@ fn parse_interrogation(bytes: &[u8]) -> Decoded
     ensures { λ r. ⌜ answered r ≡ endingOr (endsAsked (interrogatedOf (now (bytes .entry)) .outcome)) (askedIn (interrogatedOf (now (bytes .entry)) .outcome) (interrogatedOf (now (bytes .entry)) .interrogation)) ⌝ }
 {
     let found = interrogation::parse(bytes);
-    let interrogation = found.interrogation;
     let outcome = found.outcome;
     match outcome {
-        interrogation::Outcome::Short => refused(Refusal::Short),
+        interrogation::Outcome::Short => return refused(Refusal::Short),
         interrogation::Outcome::Taken => {
             let texts = static_data_report::no_texts();
-            Decoded {
-                outcome: Outcome::Taken,
-                message: Message {
-                    content: AisMessage::Interrogation,
-                    texts: texts,
-                    interrogation: interrogation,
-                },
-            }
+            return taken(AisMessage::Interrogation, texts, found.interrogation);
         }
+    }
+}
+
+// Why a type that is not decoded is refused: 10, or else 11.
+fn unread(kind: u8) -> Refusal
+    ensures { λ r. ⌜ refusedBy r ≡ unreadBy kind ⌝ }
+{
+    match kind {
+        4..=14 => return Refusal::OtherType { kind: kind },
+        16..=21 => return Refusal::OtherType { kind: kind },
+        27 => return Refusal::OtherType { kind: kind },
+        _ => return Refusal::UnknownType { kind: kind },
     }
 }
 
@@ -137,13 +145,10 @@ fn parse_type(bytes: &[u8], kind: u8) -> Decoded
     ensures { λ r. ⌜ answered r ≡ decodingBy kind (now (bytes .entry)) ⌝ }
 {
     match kind {
-        1..=3 => parse_position(bytes),
-        4..=14 => refused(Refusal::OtherType { kind: kind }),
-        15 => parse_interrogation(bytes),
-        16..=21 => refused(Refusal::OtherType { kind: kind }),
-        24 => parse_static(bytes),
-        27 => refused(Refusal::OtherType { kind: kind }),
-        _ => refused(Refusal::UnknownType { kind: kind }),
+        1..=3 => return parse_position(bytes),
+        15 => return parse_interrogation(bytes),
+        24 => return parse_static(bytes),
+        _ => return refused(unread(kind)),
     }
 }
 

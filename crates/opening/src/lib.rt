@@ -7,6 +7,7 @@ ghost use mathlib.Core.Path.{_≡_};
 ghost use Prim.Native.Nat.{_≤_};
 ghost use lib.ListN.{length};
 ghost use Rattle.armour.specs.Armour.{unarmored};
+ghost use Rattle.armour.specs.declared.Unarmored.the-variants.{Bytes};
 ghost use Rattle.opening.specs.Opening.{decodedOf, openedOf, refusedAs, Opens};
 
 // How many unarmored bytes stand first in the bit buffer, or why there are none; and the message, which tells nothing where it is refused.
@@ -24,8 +25,8 @@ pub fn open(payload: &[u8], fill: usize, bits: &mut [u8]) -> Opened
     }
     let mut scratch = [0u8; 288];
     match armour::unarmor(payload, fill, &mut scratch) {
-        Unarmored::Refused(refusal) => refused(refusal),
-        Unarmored::Bytes(n) => decoded(&scratch[..n], bits),
+        Unarmored::Refused(refusal) => return refused(refusal),
+        Unarmored::Bytes(n) => return decoded(&scratch[..n], bits),
     }
 }
 
@@ -40,19 +41,25 @@ fn refused(refusal: Refusal) -> Opened
     }
 }
 
+// A payload that is taken, of n unarmored bytes.
+fn taken(n: usize, message: Message) -> Opened
+    ensures { λ r. ⌜ r ≡ record { outcome = Bytes n; message = message } ⌝ }
+{
+    Opened {
+        outcome: Unarmored::Bytes(n),
+        message: message,
+    }
+}
+
 // Decodes unarmored bytes, and puts them first in the bit buffer where they are taken.
 fn decoded(scratch: &[u8], bits: &mut [u8]) -> Opened
     requires { ⌜ length (now scratch) ≤ length (now bits) ⌝ }
     ensures { λ r. ⌜ Opens (decodedOf (now (scratch .entry))) (now (scratch .entry)) (now (bits .entry)) r (now (bits .exit)) ⌝ }
 {
     let found = messages::parse(scratch);
-    let message = found.message;
     let outcome = found.outcome;
     match outcome {
-        Outcome::Taken => Opened {
-            outcome: Unarmored::Bytes(bytes::copy(scratch, bits)),
-            message: message,
-        },
-        Outcome::Refused(refusal) => refused(refusal),
+        Outcome::Taken => return taken(bytes::copy(scratch, bits), found.message),
+        Outcome::Refused(refusal) => return refused(refusal),
     }
 }

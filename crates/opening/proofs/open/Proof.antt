@@ -7,11 +7,6 @@ use native.Mathlib.Omega.{arith}
 use borrow.Author.Needs.{needs}
 use Rattle.opening.proofs.open.Statement.{statement}
 use Rattle.opening.proofs.open.Tie as tie
-use Rattle.opening.proofs.open.Reads as reads
-use Rattle.opening.proofs.open.Lts as lts
-use Rattle.armour.proofs.unarmor.Reads as unarmor-reads
-use Rattle.opening.proofs.decoded.Reads as decoded-reads
-use Rattle.opening.proofs.refused.Reads as refused-reads
 
 refused-requires : tie.Need-refused-requires
 refused-requires c κs = search needs
@@ -30,6 +25,11 @@ enum-known-refusal c = search needs
 
 refused-requires-2 : tie.Need-refused-requires-2
 refused-requires-2 c κs = search needs
+
+returns-2 : tie.Need-returns-2
+returns-2 c =
+    let u = c .before .before .before .before .before in
+    rw (opened-refused _ _ _ (u .before .before .if1 .left) _ _ _ refl (u .unarmor .ensures) _ _ (ap answered (c .before .before .refusal .given .1))) (opens-refused _ _ _ _ (c .refused2 .ensures))
 
 enum-known-n : tie.Need-enum-known-n
 enum-known-n c = search needs
@@ -50,11 +50,6 @@ decoded-requires c κs =
     let k = opened-fits _ _ _ (u .before .before .if1 .left) _ _ _ refl (u .unarmor .ensures) _ (ap answered (c .before .before .before .n .given .1)) in
     omega (arith, u .before .before .if1 .left, k, length-take-le (c .before .before .before .n .given .0 .0) (u .unarmor .last .1 .1 .0) (omega (arith, u .unarmor .kept .1 .1 .0, k)))
 
-returns-2 : tie.Need-returns-2
-returns-2 c =
-    let u = c .before .before .before .before .before in
-    rw (opened-refused _ _ _ (u .before .before .if1 .left) _ _ _ refl (u .unarmor .ensures) _ _ (ap answered (c .before .before .refusal .given .1))) (opens-refused _ _ _ _ (c .refused2 .ensures))
-
 same-length : tie.Need-same-length
 same-length c = search needs
 
@@ -74,10 +69,10 @@ open-spec =
     unarmor-requires
     enum-known-refusal
     refused-requires-2
+    returns-2
     enum-known-n
     array-share-prefix-scratch
     slice-aggregate-decoded
     decoded-requires
-    returns-2
     same-length
     returns-3)
