@@ -14,7 +14,7 @@ use Rattle.refusal.proofs.Order.{later, stops, passing, Each, told-each}
 use Rattle.armour.proofs.Answers.{fill-some}
 use Rattle.opening.specs.Opening.{messageChecks}
 use Rattle.sentence.specs.declared.AisSentence.{AisSentence}
-use Rattle.reassembly.specs.Record.{Join, joinIn, outcomeIn, emptiedOf, added, joinedBytes, partOf, isAlone, onto, aloneChecks, severalChecks, checksBy, joinChecks, joinBy, joinOf}
+use Rattle.reassembly.specs.Record.{Join, joinIn, emptiedOf, added, joinedBytes, partOf, isAlone, onto, severalChecks, checksBy, joinChecks, joinBy, joinOf}
 use Rattle.reassembly.specs.declared.Record.{Record}
 use Rattle.reassembly.specs.declared.Fragment.{Fragment}
 use Rattle.reassembly.specs.declared.Joined.{Joined}
@@ -22,7 +22,7 @@ use Rattle.reassembly.specs.declared.Part.{Part}
 use Rattle.reassembly.proofs.Laws.{join-checks, taken-part, taken-passed, handed-joined, alone-join}
 use Rattle.answer.specs.Answer.{complete, unfinished, heardWith, completeOf, unfinishedOf}
 use Rattle.ais.specs.Call.{Called, fragmentOf, isComplete, progressOf, joinedOf, handedBy, recordChecks, kindOf, doneBy, leftBy, calledBy, callWith}
-use Rattle.ais.specs.Parts.{handing, receivingOf, Given, Handed, Large, finishedOf, receivedOf}
+use Rattle.ais.specs.Parts.{LastFits, receivingBy, receivingOf, Given, Handed, Large, finishedOf, receivedOf}
 
 -- the number told is 0 or one that a check bears: what holds of these holds of it
 pub number-each : {A : Type 0} (P : ℕ → Type 0) (cs : List Check) (a : A) → P 0 → Each P cs → P (numberIn (checked cs (taken a)))
@@ -196,7 +196,7 @@ module _ (r : Record) (s : AisSentence) (own : List ℕ) where
       → receivingOf r s own decode payload bits ≡ receivedOf r s own decode payload bits
   unfolding receivingOf
   receiving-line decode payload bits b g l = go (joinOf r (fragmentOf s) own .told) refl where
-    go : (t : Told Part) → (joinOf r (fragmentOf s) own) .told ≡ t → handing t (joinedOf r s own) s own decode payload bits ≡ receivedOf r s own decode payload bits
+    go : (t : Told Part) → (joinOf r (fragmentOf s) own) .told ≡ t → receivingBy (record { told = t; after = joinedOf r s own }) s own decode payload bits ≡ receivedOf r s own decode payload bits
     go (refused n values) e = sym (received-refused n values e decode payload bits)
     go (taken Part.Unfinished) e =
         unfinished-by-line (joinedOf r s own) s own payload bits (own-few Part.Unfinished e) (l .room) ∙ sym (received-unfinished decode payload bits e)
@@ -209,7 +209,7 @@ module _ (r : Record) (s : AisSentence) (own : List ℕ) where
     unfolding completeOf
     alone-long e = rw (le-ltb (length payload) 384 l, e)
 
-    alone-handing : (b : Bool) → ltb 384 (length own) ≡ b → calledBy (completeOf s own decode payload bits) r ≡ handing (pick b (refused 6 []) (taken Part.Alone)) r s own decode payload bits
+    alone-handing : (b : Bool) → ltb 384 (length own) ≡ b → calledBy (completeOf s own decode payload bits) r ≡ receivingBy (record { told = pick b (refused 6 []) (taken Part.Alone); after = r }) s own decode payload bits
     alone-handing true e = alone-long e
     alone-handing false e = refl
 
@@ -217,16 +217,15 @@ module _ (r : Record) (s : AisSentence) (own : List ℕ) where
     unfolding receivingOf
     alone-receiving k =
         alone-handing (ltb 384 (length own)) refl
-        ∙ ap (λ (j : Join). handing (j .told) (j .after) s own decode payload bits) (sym (alone-join r (fragmentOf s) own k))
+        ∙ ap (λ (j : Join). receivingBy j s own decode payload bits) (sym (alone-join r (fragmentOf s) own k))
 
 -- the code's join j: what is handed out by it
 module _ (r : Record) (s : AisSentence) (own : List ℕ) (j : Joined) (e : joinIn j ≡ joinOf r (fragmentOf s) own) where
-  pub receiving-by : (t : Told Part) → outcomeIn (j .outcome) ≡ t → (decode : Bool) (payload bits : List ℕ)
-      → handing t (j .state) s own decode payload bits ≡ receivingOf r s own decode payload bits
+  pub receiving-by : (decode : Bool) (payload bits : List ℕ) → receivingBy (joinIn j) s own decode payload bits ≡ receivingOf r s own decode payload bits
   unfolding receivingOf
-  receiving-by t w decode payload bits = rw (sym w) (ap (λ (q : Join). handing (q .told) (q .after) s own decode payload bits) e)
+  receiving-by decode payload bits = ap (λ (q : Join). receivingBy q s own decode payload bits) e
 
-  pub last-join-fits : length (r .bytes) ≡ 384 → outcomeIn (j .outcome) ≡ taken Part.Last → j .state .len ≤ length (j .state .bytes)
+  pub last-join-fits : length (r .bytes) ≡ 384 → LastFits j
   last-join-fits b w =
       let t : (joinOf r (fragmentOf s) own) .told ≡ taken Part.Last = sym (ap (λ (q : Join). q .told) e) ∙ w in
       subst (λ (q : Record). q .len ≤ length (q .bytes)) (sym (ap (λ (q : Join). q .after) e)) (last-fits r s own b t)

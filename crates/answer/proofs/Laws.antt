@@ -15,13 +15,12 @@ use Rattle.armour.specs.Armour.{meaning, size, unarmored}
 use Rattle.armour.specs.Unarmor.{answered}
 use Rattle.armour.specs.declared.Unarmored.the-variants.{Bytes, Refused}
 use Rattle.messages.specs.Messages.{typeOf, messageBy, noMessage}
-use Rattle.messages.specs.declared.Message.{Message}
 use Rattle.opening.specs.Opening.{openChecks, openedOf, Opens}
 use Rattle.opening.specs.declared.Opened.{Opened}
 use Rattle.sentence.specs.declared.AisSentence.{AisSentence}
 use Rattle.answer.specs.Sentence.{trueType}
 use Rattle.answer.specs.Answer.{complete, heardIn, refuses, takes, completeOf, unfinishedOf}
-use Rattle.answer.specs.Parts.{Fits, decodedOf}
+use Rattle.answer.specs.Parts.{decodedOf}
 use Rattle.answer.specs.declared.TrueType.{TrueType}
 use Rattle.answer.specs.declared.Outcome.{Outcome}
 use Rattle.answer.specs.declared.Answer.{Answer}
@@ -60,15 +59,15 @@ module _ (s : AisSentence) (handed payload : List ℕ) (a : Answer) where
         unfolding completeOf
         complete-decoded payload′ bits′ e = e ∙ rw (le-ltb (length payload) 384 room, le-ltb 384 (length handed) few)
 
-        pub complete-undecoded : (m : Message) (payload′ : List ℕ) → m ≡ noMessage → a ≡ takes Outcome.Complete s handed m → payload′ ≡ over handed payload
+        pub complete-undecoded : (payload′ : List ℕ) → a ≡ takes Outcome.Complete s handed noMessage → payload′ ≡ over handed payload
             → heardIn a payload′ bits ≡ completeOf s handed false payload bits
         unfolding completeOf
-        complete-undecoded m payload′ n e p = rw (e, n, p, le-ltb (length payload) 384 room, le-ltb 384 (length handed) few)
+        complete-undecoded payload′ e p = rw (e, p, le-ltb (length payload) 384 room, le-ltb 384 (length handed) few)
 
-        pub unfinished-taken : (m : Message) (payload′ : List ℕ) → m ≡ noMessage → a ≡ takes Outcome.Unfinished s handed m → payload′ ≡ over handed payload
+        pub unfinished-taken : (payload′ : List ℕ) → a ≡ takes Outcome.Unfinished s handed noMessage → payload′ ≡ over handed payload
             → heardIn a payload′ bits ≡ unfinishedOf s handed payload bits
         unfolding unfinishedOf
-        unfinished-taken m payload′ n e p = rw (e, n, p, le-ltb (length payload) 384 room, le-ltb 384 (length handed) few)
+        unfinished-taken payload′ e p = rw (e, p, le-ltb (length payload) 384 room, le-ltb 384 (length handed) few)
 
   -- a payload that was opened, with the bit buffer after it: refused, or decoded
   module _ (bits : List ℕ) (o : Opened) (bits′ : List ℕ)

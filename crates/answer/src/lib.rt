@@ -12,6 +12,7 @@ ghost use mathlib.Core.List.{List};
 ghost use Prim.Native.Nat.{ℕ, _≤_, _*_, _-_};
 ghost use lib.ListN.{length};
 ghost use Rattle.refusal.specs.Words.{over};
+ghost use Rattle.messages.specs.Messages.{noMessage};
 ghost use Rattle.answer.specs.Sentence.{trueType, heardOf, noSentence};
 ghost use Rattle.answer.specs.Answer.{heardIn, refuses, takes, completeOf, unfinishedOf};
 ghost use Rattle.answer.specs.Parts.{Fits, decodedOf};
@@ -156,17 +157,26 @@ fn taken(
     }
 }
 
+// A line that is taken and not decoded.
+fn undecoded(outcome: Outcome, s: AisSentence, handed: &[u8], payload: &mut [u8]) -> Answer
+    requires { ⌜ Fits (now handed) (now payload) ⌝ }
+    ensures { λ r. ⌜ r ≡ takes outcome s (now (handed .entry)) noMessage ⌝ }
+    ensures { λ r. ⌜ now (payload .exit) ≡ over (now (handed .entry)) (now (payload .entry)) ⌝ }
+{
+    let message = messages::nothing();
+    taken(outcome, s, handed, message, payload)
+}
+
 // A complete message, decoded.
 fn decoded(s: AisSentence, handed: &[u8], payload: &mut [u8], bits: &mut [u8]) -> Answer
     requires { ⌜ Fits (now handed) (now payload) ⌝ }
     ensures { λ r. ⌜ heardIn r (now (payload .exit)) (now (bits .exit)) ≡ decodedOf s (now (handed .entry)) (now (payload .entry)) (now (bits .entry)) ⌝ }
 {
     let opened = opening::open(handed, s.fill_bit_count as usize, bits);
-    let message = opened.message;
     let outcome = opened.outcome;
     match outcome {
-        Unarmored::Refused(refusal) => refuse(refusal),
-        Unarmored::Bytes(_) => taken(Outcome::Complete, s, handed, message, payload),
+        Unarmored::Refused(refusal) => return refuse(refusal),
+        Unarmored::Bytes(_) => return taken(Outcome::Complete, s, handed, opened.message, payload),
     }
 }
 
@@ -189,8 +199,7 @@ pub fn complete(
     if decode {
         return decoded(s, handed, payload, bits);
     }
-    let message = messages::nothing();
-    taken(Outcome::Complete, s, handed, message, payload)
+    undecoded(Outcome::Complete, s, handed, payload)
 }
 
 // A line of an unfinished message, with its own payload: 12 and 6. The bit buffer is not asked.
@@ -203,6 +212,5 @@ pub fn unfinished(s: AisSentence, own: &[u8], payload: &mut [u8]) -> Answer
     if 384 < own.len() {
         return refuse(Refusal::PayloadTooLong);
     }
-    let message = messages::nothing();
-    taken(Outcome::Unfinished, s, own, message, payload)
+    undecoded(Outcome::Unfinished, s, own, payload)
 }
