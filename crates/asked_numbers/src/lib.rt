@@ -4,6 +4,8 @@ use interrogation::SlotOffset;
 use interrogation::Station;
 use numbers::Optional;
 ghost use mathlib.Core.Path.{_≡_};
+ghost use mathlib.Core.List.{_++_};
+ghost use lib.ListN.{replicate};
 ghost use Rattle.text_out.specs.Text.{text, put};
 ghost use Rattle.asked_numbers.specs.Asked.{offsetIn, stationNumbers, askedNumbers};
 
@@ -12,8 +14,6 @@ pub fn put_asked(out: &mut [u64], at: usize, i: Interrogation) -> usize
     ensures { λ r. ⌜ text r (now (out .exit)) ≡ put (text at (now (out .entry))) (askedNumbers i) ⌝ }
 {
     let stations = i.stations;
-    let one = stations[0];
-    let two = stations[1];
     let sender = [
         3,
         i.message_type as u64,
@@ -21,8 +21,21 @@ pub fn put_asked(out: &mut [u64], at: usize, i: Interrogation) -> usize
         i.mmsi as u64,
         i.count as u64,
     ];
-    let first = station(one);
-    let second = station(two);
+    let first = station(stations[0]);
+    let second = station(stations[1]);
+    put_runs(out, at, sender, first, second)
+}
+
+// The sender's numbers, those of the two stations, and zeros up to 34.
+fn put_runs(
+    out: &mut [u64],
+    at: usize,
+    sender: [u64; 5],
+    first: [u64; 8],
+    second: [u64; 8],
+) -> usize
+    ensures { λ r. ⌜ text r (now (out .exit)) ≡ put (text at (now (out .entry))) (sender ++ (first ++ (second ++ replicate 13 0))) ⌝ }
+{
     let rest = [0u64; 13];
     let a = numbers::put_numbers(out, at, &sender);
     let b = numbers::put_numbers(out, a, &first);

@@ -11,13 +11,11 @@ pub fn put_message(out: &mut [u64], at: usize, m: Message) -> usize
     ensures { λ r. ⌜ text r (now (out .exit)) ≡ put (text at (now (out .entry))) (messageNumbers m) ⌝ }
 {
     let content = m.content;
-    let texts = m.texts;
-    let asked = m.interrogation;
     match content {
         AisMessage::Nothing => put_nothing(out, at),
         AisMessage::PositionReport(p) => position_numbers::put_position(out, at, p),
-        AisMessage::StaticDataReport(s) => static_numbers::put_static(out, at, s, texts),
-        AisMessage::Interrogation => asked_numbers::put_asked(out, at, asked),
+        AisMessage::StaticDataReport(s) => static_numbers::put_static(out, at, s, m.texts),
+        AisMessage::Interrogation => asked_numbers::put_asked(out, at, m.interrogation),
     }
 }
 
@@ -35,13 +33,10 @@ pub fn put_texts(out: &mut [u8], at: usize, m: Message) -> usize
     ensures { λ _. ⌜ length (messageTexts m) ≡ 80 ⌝ }
 {
     let content = m.content;
-    let texts = m.texts;
-    match content {
-        AisMessage::Nothing => put_no_texts(out, at),
-        AisMessage::PositionReport(_) => put_no_texts(out, at),
-        AisMessage::StaticDataReport(_) => static_numbers::put_texts(out, at, texts),
-        AisMessage::Interrogation => put_no_texts(out, at),
-    }
+    let AisMessage::StaticDataReport(_) = content else {
+        return put_no_texts(out, at);
+    };
+    static_numbers::put_texts(out, at, m.texts)
 }
 
 // No texts.
