@@ -2,28 +2,79 @@
 use answer::Answer;
 use answer::Outcome;
 use reassembly::Record;
+use refusal::Refusal;
 ghost use mathlib.Core.Path.{_≡_};
 ghost use Rattle.text_out.specs.Text.{text, put};
-ghost use Rattle.json_answer.specs.Answer.{answerLine, leftIn, leftOf};
+ghost use Prim.Native.Nat.{_+_, _-_, _^_, min};
+ghost use lib.ListN.{take};
+ghost use Rattle.json_answer.specs.Answer.{answerLine, leftWith, leftIn, leftLong, leftOf};
+
+// What is kept from line to line: the reassembly record, the number of lines so far, and how much of the output buffer is in use.
+pub struct Kept {
+    pub state: Record,
+    pub number: u64,
+    pub used: usize,
+}
+
+// A line of n bytes is read and answered.
+pub fn answer_line(s: Kept, n: usize, line: &[u8], out: &mut [u8]) -> Kept
+    ensures { λ r. ⌜ leftWith (r .state) (r .used) (now (out .exit)) ≡ leftOf (s .state) (r .number) (take n (now (line .entry))) (s .used) (now (out .entry)) ⌝ }
+    ensures { λ r. ⌜ r .number ≡ min (s .number + 1) (2 ^ 64 - 1) ⌝ }
+{
+    let k = text_out::up_to(n, line);
+    let number = following(s.number);
+    let told = tell(s.state, number, &line[..k], out, s.used);
+    let left = told.state;
+    Kept {
+        state: left,
+        number: number,
+        used: told.at,
+    }
+}
+
+// A line that is too long is refused, and leaves the record as it was.
+pub fn answer_long(s: Kept, out: &mut [u8]) -> Kept
+    ensures { λ r. ⌜ leftWith (r .state) (r .used) (now (out .exit)) ≡ leftLong (s .state) (r .number) (s .used) (now (out .entry)) ⌝ }
+    ensures { λ r. ⌜ r .number ≡ min (s .number + 1) (2 ^ 64 - 1) ⌝ }
+{
+    let state = s.state;
+    let number = following(s.number);
+    Kept {
+        state: state,
+        number: number,
+        used: json_refused::put_refused(out, s.used, number, Refusal::LineTooLong),
+    }
+}
+
+// The number of the next line; no input has so many lines that it would stay.
+fn following(number: u64) -> u64
+    ensures { λ r. ⌜ r ≡ min (number + 1) (2 ^ 64 - 1) ⌝ }
+{
+    if number < u64::MAX {
+        number + 1
+    } else {
+        number
+    }
+}
 
 // The record after a line, and the place behind what was put for it.
-pub struct Next {
+struct Next {
     pub state: Record,
     pub at: usize,
 }
 
 // Reads a line, the one of this number in the input, and puts its answer.
-pub fn tell(state: Record, number: u64, line: &[u8], out: &mut [u8], at: usize) -> Next
+fn tell(state: Record, number: u64, line: &[u8], out: &mut [u8], at: usize) -> Next
     ensures { λ r. ⌜ leftIn r (now (out .exit)) ≡ leftOf state number (now (line .entry)) at (now (out .entry)) ⌝ }
 {
     let mut payload = [0u8; 384];
     let mut bits = [0u8; 288];
     let s = reader::turn(state, line, true, &mut payload, &mut bits);
+    let behind = put_answer(out, at, number, s.answer, &bits);
     let after = s.state;
-    let answer = s.answer;
     Next {
         state: after,
-        at: put_answer(out, at, number, answer, &bits),
+        at: behind,
     }
 }
 

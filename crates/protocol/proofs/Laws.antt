@@ -6,7 +6,7 @@ use mathlib.Core.List.{List}
 use Rattle.text_out.specs.Text.{Text, put, ascii}
 use Rattle.words.specs.Line.{wordAt, sameAs}
 use Rattle.reassembly.specs.declared.Record.{Record}
-use Rattle.alone.specs.Alone.{aloneSaid}
+use Rattle.protocol.specs.Alone.{aloneSaid}
 use Rattle.reply.specs.Reply.{Reply, reply}
 use Rattle.lend_command.specs.Lend.{freshReply, lendReply}
 use Rattle.read_command.specs.Read.{readReply}

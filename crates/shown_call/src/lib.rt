@@ -5,6 +5,7 @@ ghost use mathlib.Core.Path.{_≡_};
 ghost use Rattle.ais.specs.Call.{calledIn};
 ghost use Rattle.text_out.specs.Text.{text, put};
 ghost use Rattle.shown_call.specs.Called.{bitsOut, answerShown, calledShown};
+ghost use Rattle.shown_call.specs.Taken.{handedShown, bothKept, takenShown};
 
 // All that a call gave back. The two buffers are as they are after it.
 pub fn put_called(
@@ -17,9 +18,8 @@ pub fn put_called(
 ) -> usize
     ensures { λ r. ⌜ text r (now (out .exit)) ≡ put (text at (now (out .entry))) (calledShown decode (calledIn stepped (now (payload .entry)) (now (bits .entry)))) ⌝ }
 {
-    let state = stepped.state;
     let a = put_answer(out, at, stepped, decode, payload, bits);
-    shown_record::put_record(out, a, state)
+    shown_record::put_record(out, a, stepped.state)
 }
 
 // What was told, and KEPT.
@@ -37,21 +37,13 @@ fn put_answer(
     let outcome = answer.outcome;
     match outcome {
         Outcome::Complete => {
-            let m = bits_out(decode, answer.sentence.payload_len);
-            shown_taken::put_taken(out, at, b"complete", stepped, payload, bits, m)
+            let m = bits_out(decode, stepped.answer.sentence.payload_len);
+            put_taken(out, at, b"complete", stepped, payload, bits, m)
         }
-        Outcome::Unfinished => shown_taken::put_taken(
-            out,
-            at,
-            b"unfinished",
-            stepped,
-            payload,
-            bits,
-            0,
-        ),
+        Outcome::Unfinished => put_taken(out, at, b"unfinished", stepped, payload, bits, 0),
         Outcome::Refused(refusal) => {
             let a = show::put_refusal(out, at, refusal);
-            shown_taken::put_both_kept(out, a, payload, 0, bits, 0)
+            put_both_kept(out, a, payload, 0, bits, 0)
         }
     }
 }
@@ -65,4 +57,52 @@ fn bits_out(decode: bool, n: usize) -> usize
         return n / 4 * 3 + (n % 4 * 6 + 7) / 8;
     }
     0
+}
+
+// A line that was taken, of which m bytes were handed out in the bit buffer.
+fn put_taken(
+    out: &mut [u8],
+    at: usize,
+    word: &[u8],
+    stepped: Stepped,
+    payload: &[u8],
+    bits: &[u8],
+    m: usize,
+) -> usize
+    ensures { λ r. ⌜ text r (now (out .exit)) ≡ put (text at (now (out .entry))) (takenShown (now (word .entry)) m (calledIn stepped (now (payload .entry)) (now (bits .entry)))) ⌝ }
+{
+    let n = stepped.answer.sentence.payload_len;
+    let a = text_out::put_bytes(out, at, word);
+    let b = shown_sentence::put_sentence(out, a, stepped.answer.sentence);
+    let c = put_handed(out, b, payload, n);
+    let d = put_handed(out, c, bits, m);
+    let e = text_out::put_byte(out, d, b' ');
+    let f = shown_message::put_message(out, e, stepped.answer.message);
+    put_both_kept(out, f, payload, n, bits, m)
+}
+
+// The first n bytes of a buffer.
+fn put_handed(out: &mut [u8], at: usize, buffer: &[u8], n: usize) -> usize
+    ensures { λ r. ⌜ text r (now (out .exit)) ≡ put (text at (now (out .entry))) (handedShown n (now (buffer .entry))) ⌝ }
+{
+    let k = text_out::up_to(n, buffer);
+    let a = text_out::put_byte(out, at, b' ');
+    show::put_shown(out, a, &buffer[..k])
+}
+
+// KEPT, of the bytes beyond n of the one buffer and beyond m of the other.
+fn put_both_kept(
+    out: &mut [u8],
+    at: usize,
+    payload: &[u8],
+    n: usize,
+    bits: &[u8],
+    m: usize,
+) -> usize
+    ensures { λ r. ⌜ text r (now (out .exit)) ≡ put (text at (now (out .entry))) (bothKept n (now (payload .entry)) m (now (bits .entry))) ⌝ }
+{
+    if show::untouched(payload, n) {
+        return show::put_kept(out, at, show::untouched(bits, m));
+    }
+    show::put_kept(out, at, false)
 }

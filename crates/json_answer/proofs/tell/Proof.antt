@@ -26,10 +26,10 @@ same-length c = search needs
 
 returns : tie.Need-returns
 unfolding readOf
-returns c = let s = c .before .before .before .before .before .before .before .before .before .before .before .before .before .before .args in
-    let r = c .before .before .before .before .before .before .before .before .before .turn .result in
-    ap (λ (t : Text). record { state = r .state; out = t }) (c .before .before .put-answer .ensures)
-    ∙ ap (leftBy (s .number) (text (s .at) (s .out .now))) (c .before .before .before .before .before .before .before .before .before .turn .ensures)
+returns c = let s = c .before .before .before .before .before .before .before .before .before .before .before .before .before .args in
+    let r = c .before .before .before .before .before .before .before .before .turn .result in
+    ap (λ (t : Text). record { state = r .state; out = t }) (c .before .before .before .put-answer .ensures)
+    ∙ ap (leftBy (s .number) (text (s .at) (s .out .now))) (c .before .before .before .before .before .before .before .before .turn .ensures)
 
 pub tell-spec : {M : Type 1} → statement M
 tell-spec =

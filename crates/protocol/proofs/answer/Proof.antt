@@ -56,8 +56,8 @@ returns-3 c =
     let s = c .before .before .before .before .before .before .before .before .before .before .before .before .before .before .before .args in
     as-replied (reply-read (s .state) (s .line .now) (sym (c .before .before .before .before .before .before .before .before .before .before .before .named .ensures) ∙ c .before .before .before .before .before .before .before .before .before .before .if1 .left) (sym (c .before .before .before .before .before .before .before .before .named2 .ensures) ∙ c .before .before .before .before .before .before .before .if2 .left) (sym (c .before .before .before .before .before .named3 .ensures) ∙ c .before .before .before .before .if3 .taken)) _ _ _ (c .before .before .say-read .ensures)
 
-answer-requires : tie.Need-answer-requires
-answer-requires c κs = search needs
+answer-alone-requires : tie.Need-answer-alone-requires
+answer-alone-requires c κs = search needs
 
 same-length-4 : tie.Need-same-length-4
 same-length-4 c = search needs
@@ -65,8 +65,8 @@ same-length-4 c = search needs
 returns-4 : tie.Need-returns-4
 returns-4 c =
     let s = c .before .before .before .before .before .before .before .before .before .before .before .before .before .before .before .args in
-    as-replied (reply-alone (s .state) (s .line .now) (sym (c .before .before .before .before .before .before .before .before .before .before .before .named .ensures) ∙ c .before .before .before .before .before .before .before .before .before .before .if1 .left) (sym (c .before .before .before .before .before .before .before .before .named2 .ensures) ∙ c .before .before .before .before .before .before .before .if2 .left) (sym (c .before .before .before .before .before .named3 .ensures) ∙ c .before .before .before .before .if3 .left)) _ _ _ (c .before .before .answer .ensures, refl)
+    as-replied (reply-alone (s .state) (s .line .now) (sym (c .before .before .before .before .before .before .before .before .before .before .before .named .ensures) ∙ c .before .before .before .before .before .before .before .before .before .before .if1 .left) (sym (c .before .before .before .before .before .before .before .before .named2 .ensures) ∙ c .before .before .before .before .before .before .before .if2 .left) (sym (c .before .before .before .before .before .named3 .ensures) ∙ c .before .before .before .before .if3 .left)) _ _ _ (c .before .before .answer-alone .ensures, refl)
 
 pub answer-spec : {M : Type 1} → statement M
 answer-spec =
-    tie.close (tie.spec slice-aggregate-named named-requires say-fresh-requires same-length returns slice-aggregate-named-2 named-requires-2 say-lend-requires same-length-2 returns-2 slice-aggregate-named-3 named-requires-3 say-read-requires same-length-3 returns-3 answer-requires same-length-4 returns-4)
+    tie.close (tie.spec slice-aggregate-named named-requires say-fresh-requires same-length returns slice-aggregate-named-2 named-requires-2 say-lend-requires same-length-2 returns-2 slice-aggregate-named-3 named-requires-3 say-read-requires same-length-3 returns-3 answer-alone-requires same-length-4 returns-4)

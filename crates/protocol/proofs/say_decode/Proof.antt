@@ -1,4 +1,4 @@
--- `alone::say_decode` meets its contract. Assumes nothing.
+-- `protocol::say_decode` meets its contract. Assumes nothing.
 use Prim.Native.Nat.{ℕ}
 use mathlib.Core.Path.{sym, ap, _∙_, subst}
 use mathlib.Core.List.{List}
@@ -12,8 +12,8 @@ use Rattle.words.specs.declared.Filled.{Filled}
 use Rattle.words.proofs.Laws.{filled-bytes}
 use Rattle.shown_message.specs.Message.{decodedShown}
 use borrow.Author.Needs.{needs}
-use Rattle.alone.proofs.say_decode.Statement.{statement}
-use Rattle.alone.proofs.say_decode.Tie as tie
+use Rattle.protocol.proofs.say_decode.Statement.{statement}
+use Rattle.protocol.proofs.say_decode.Tie as tie
 
 count-requires : tie.Need-count-requires
 count-requires c κs = search needs

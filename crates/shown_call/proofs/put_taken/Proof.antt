@@ -1,9 +1,9 @@
--- `shown_taken::put_taken` meets its contract. Assumes nothing.
+-- `shown_call::put_taken` meets its contract. Assumes nothing.
 use mathlib.Core.List.{[], _∷_}
 use Rattle.text_out.proofs.Laws.{put-then}
 use borrow.Author.Needs.{needs}
-use Rattle.shown_taken.proofs.put_taken.Statement.{statement}
-use Rattle.shown_taken.proofs.put_taken.Tie as tie
+use Rattle.shown_call.proofs.put_taken.Statement.{statement}
+use Rattle.shown_call.proofs.put_taken.Tie as tie
 
 put-bytes-requires : tie.Need-put-bytes-requires
 put-bytes-requires c κs = search needs

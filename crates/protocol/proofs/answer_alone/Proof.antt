@@ -1,9 +1,9 @@
--- `alone::answer` meets its contract. Assumes nothing.
+-- `protocol::answer_alone` meets its contract. Assumes nothing.
 use mathlib.Core.Path.{sym, _∙_}
-use Rattle.alone.specs.Alone.{aloneSaid}
+use Rattle.protocol.specs.Alone.{aloneSaid}
 use borrow.Author.Needs.{needs}
-use Rattle.alone.proofs.answer.Statement.{statement}
-use Rattle.alone.proofs.answer.Tie as tie
+use Rattle.protocol.proofs.answer_alone.Statement.{statement}
+use Rattle.protocol.proofs.answer_alone.Tie as tie
 
 slice-aggregate-named : tie.Need-slice-aggregate-named
 slice-aggregate-named c = search needs
@@ -67,8 +67,8 @@ unfolding aloneSaid
 returns-4 c =
     rw (sym (c .before .before .before .before .before .before .before .before .before .before .before .named .ensures) ∙ c .before .before .before .before .before .before .before .before .before .before .if1 .left, sym (c .before .before .before .before .before .before .before .before .named2 .ensures) ∙ c .before .before .before .before .before .before .before .if2 .left, sym (c .before .before .before .before .before .named3 .ensures) ∙ c .before .before .before .before .if3 .left) (c .before .before .say-bad .ensures)
 
-pub answer-spec : {M : Type 1} → statement M
-answer-spec =
+pub answer-alone-spec : {M : Type 1} → statement M
+answer-alone-spec =
     tie.close
     (tie.spec
     slice-aggregate-named

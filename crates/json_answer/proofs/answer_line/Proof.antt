@@ -1,13 +1,13 @@
--- `json_lines::answer_line` meets its contract. Assumes nothing.
+-- `json_answer::answer_line` meets its contract. Assumes nothing.
 use Prim.Native.Nat.{ℕ}
 use mathlib.Core.Path.{ap, _∙_}
 use mathlib.Core.List.{List}
 use lib.ListN.{take}
 use Rattle.text_out.proofs.Laws.{take-min}
 use Rattle.json_answer.specs.Answer.{leftOf}
 use borrow.Author.Needs.{needs}
-use Rattle.json_lines.proofs.answer_line.Statement.{statement}
-use Rattle.json_lines.proofs.answer_line.Tie as tie
+use Rattle.json_answer.proofs.answer_line.Statement.{statement}
+use Rattle.json_answer.proofs.answer_line.Tie as tie
 
 up-to-requires : tie.Need-up-to-requires
 up-to-requires c κs = search needs
@@ -26,11 +26,11 @@ same-length c = search needs
 
 returns : tie.Need-returns
 returns c =
-    let s = c .before .before .before .before .before .before .before .before .before .before .before .args in
+    let s = c .before .before .before .before .before .before .before .before .before .before .args in
     let l = s .line .now in
     let n = c .before .before .before .before .before .before .following .result in (
       c .before .before .before .tell .ensures
-          ∙ ap (λ (m : List ℕ). leftOf (s .s .state) n m (s .s .used) (s .out .now)) (ap (λ (i : ℕ). take i l) (c .before .before .before .before .before .before .before .before .up-to .ensures .0) ∙ take-min (s .n) l),
+          ∙ ap (λ (m : List ℕ). leftOf (s .s .state) n m (s .s .used) (s .out .now)) (ap (λ (i : ℕ). take i l) (c .before .before .before .before .before .before .before .up-to .ensures .0) ∙ take-min (s .n) l),
       c .before .before .before .before .before .before .following .ensures,
     )
 

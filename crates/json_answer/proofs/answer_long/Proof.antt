@@ -1,9 +1,9 @@
--- `json_lines::answer_long` meets its contract. Assumes nothing.
+-- `json_answer::answer_long` meets its contract. Assumes nothing.
 use mathlib.Core.Path.{ap}
 use Rattle.text_out.specs.Text.{Text}
 use borrow.Author.Needs.{needs}
-use Rattle.json_lines.proofs.answer_long.Statement.{statement}
-use Rattle.json_lines.proofs.answer_long.Tie as tie
+use Rattle.json_answer.proofs.answer_long.Statement.{statement}
+use Rattle.json_answer.proofs.answer_long.Tie as tie
 
 following-requires : tie.Need-following-requires
 following-requires c κs = search needs
