@@ -1,10 +1,9 @@
 -- What the block gives, from what the collector was called with; and what is kept of it. Assumes nothing.
 use Prim.Native.Nat.{ℕ, min}
-use mathlib.Core.Path.{_≡_, refl, sym, ap, _∙_}
+use mathlib.Core.Path.{_≡_, sym, ap, _∙_}
 use mathlib.Core.Bool.{Bool}
 use mathlib.Core.List.{List}
 use lib.ListN.{length, take, length-take}
-use Rattle.lines.specs.declared.Event.{Event}
 use Rattle.lines.specs.Collect.{Called, collectOf, nextOf}
 use Rattle.text_out.proofs.Laws.{take-min}
 use Rattle.stream.specs.declared.Input.{Input}

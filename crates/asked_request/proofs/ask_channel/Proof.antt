@@ -5,10 +5,6 @@ use Rattle.asked_request.specs.Asked.{channelAsked}
 use borrow.Author.Needs.{needs}
 use Rattle.asked_request.proofs.ask_channel.Statement.{statement}
 use Rattle.asked_request.proofs.ask_channel.Tie as tie
-use Rattle.asked_request.proofs.ask_channel.Reads as reads
-use Rattle.asked_request.proofs.ask_channel.Lts as lts
-use Rattle.words.proofs.decimal.Reads as decimal-reads
-use Rattle.words.proofs.named.Reads as named-reads
 
 slice-aggregate-named : tie.Need-slice-aggregate-named
 slice-aggregate-named c = search needs

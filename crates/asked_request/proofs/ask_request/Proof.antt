@@ -5,12 +5,6 @@ use Rattle.asked_request.specs.Asked.{requestAsked}
 use borrow.Author.Needs.{needs}
 use Rattle.asked_request.proofs.ask_request.Statement.{statement}
 use Rattle.asked_request.proofs.ask_request.Tie as tie
-use Rattle.asked_request.proofs.ask_request.Reads as reads
-use Rattle.asked_request.proofs.ask_request.Lts as lts
-use Rattle.asked_request.proofs.ask_channel.Reads as ask-channel-reads
-use Rattle.asked_request.proofs.ask_report.Reads as ask-report-reads
-use Rattle.asked_request.proofs.ask_talker.Reads as ask-talker-reads
-use Rattle.words.proofs.decimal.Reads as decimal-reads
 
 decimal-requires : tie.Need-decimal-requires
 decimal-requires c κs = search needs

@@ -4,10 +4,6 @@ use Rattle.asked_request.specs.Asked.{talkerAsked}
 use borrow.Author.Needs.{needs}
 use Rattle.asked_request.proofs.ask_talker.Statement.{statement}
 use Rattle.asked_request.proofs.ask_talker.Tie as tie
-use Rattle.asked_request.proofs.ask_talker.Reads as reads
-use Rattle.asked_request.proofs.ask_talker.Lts as lts
-use Rattle.asked_request.proofs.ask_further_talker.Reads as ask-further-talker-reads
-use Rattle.words.proofs.named.Reads as named-reads
 
 slice-aggregate-named : tie.Need-slice-aggregate-named
 slice-aggregate-named c = search needs

@@ -5,11 +5,6 @@ use Rattle.asked_request.specs.Asked.{writeAsked}
 use borrow.Author.Needs.{needs}
 use Rattle.asked_request.proofs.ask_write.Statement.{statement}
 use Rattle.asked_request.proofs.ask_write.Tie as tie
-use Rattle.asked_request.proofs.ask_write.Reads as reads
-use Rattle.asked_request.proofs.ask_write.Lts as lts
-use Rattle.asked_request.proofs.ask_request.Reads as ask-request-reads
-use Rattle.words.proofs.count.Reads as count-reads
-use Rattle.words.proofs.decimal.Reads as decimal-reads
 
 count-requires : tie.Need-count-requires
 count-requires c κs = search needs
