@@ -27,12 +27,12 @@ pub fn put_position(
 fn put_ship(out: &mut [u8], at: usize, line: u64, report: PositionReport) -> usize
     ensures { λ r. ⌜ text r (now (out .exit)) ≡ put (text at (now (out .entry))) (shipJson line report) ⌝ }
 {
-    let status = report.navigation_status;
-    let turn = report.rate_of_turn;
     let kind = report.message_type;
     let repeat = report.repeat_indicator;
     let a = json_values::put_head(out, at, line, kind, repeat, report.mmsi);
+    let status = report.navigation_status;
     let b = json::put_unless(out, a, b"status", status.number() as u64, 15);
+    let turn = report.rate_of_turn;
     json_values::put_turn(out, b, turn)
 }
 
@@ -41,8 +41,8 @@ fn put_speed(out: &mut [u8], at: usize, report: PositionReport) -> usize
     ensures { λ r. ⌜ text r (now (out .exit)) ≡ put (text at (now (out .entry))) (speedJson report) ⌝ }
 {
     let speed = report.speed_over_ground;
-    let accuracy = report.position_accuracy;
     let a = put_measured(out, at, b"speed", b"speed_raw", speed, report.speed_raw);
+    let accuracy = report.position_accuracy;
     json::put_flag(out, a, b"accuracy", accuracy.number() == 1)
 }
 

@@ -20,10 +20,10 @@ pub fn put_position(out: &mut [u8], at: usize, report: PositionReport) -> usize
 fn put_ship(out: &mut [u8], at: usize, report: PositionReport) -> usize
     ensures { λ r. ⌜ text r (now (out .exit)) ≡ put (text at (now (out .entry))) (shipShown report) ⌝ }
 {
-    let status = report.navigation_status;
     let a = shown_values::put_named(out, at, b"position", report.message_type as u64);
     let b = show::put_value(out, a, report.repeat_indicator as u64);
     let c = show::put_value(out, b, report.mmsi as u64);
+    let status = report.navigation_status;
     shown_values::put_unless(out, c, status.number() as u64, 15)
 }
 
@@ -32,10 +32,10 @@ fn put_turning(out: &mut [u8], at: usize, report: PositionReport) -> usize
     ensures { λ r. ⌜ text r (now (out .exit)) ≡ put (text at (now (out .entry))) (turningShown report) ⌝ }
 {
     let turn = report.rate_of_turn;
-    let rate = report.rate;
-    let direction = report.direction;
     let a = shown_values::put_turn(out, at, turn);
+    let rate = report.rate;
     let b = shown_values::put_reading(out, a, rate);
+    let direction = report.direction;
     shown_values::put_direction(out, b, direction)
 }
 
@@ -44,8 +44,8 @@ fn put_speed(out: &mut [u8], at: usize, report: PositionReport) -> usize
     ensures { λ r. ⌜ text r (now (out .exit)) ≡ put (text at (now (out .entry))) (speedShown report) ⌝ }
 {
     let speed = report.speed_over_ground;
-    let accuracy = report.position_accuracy;
     let a = put_measured(out, at, report.speed_raw, speed);
+    let accuracy = report.position_accuracy;
     show::put_value(out, a, accuracy.number() as u64)
 }
 
