@@ -1,1 +1,3 @@
 pub mod Json
+pub mod Point
+pub mod Strings

@@ -10,7 +10,7 @@ use Rattle.messages.specs.declared.Message.{Message}
 use Rattle.json_values.specs.Values.{opened}
 use Rattle.json_position.specs.Position.{positionJson}
 use Rattle.json_static.specs.StaticData.{staticJson}
-use Rattle.json_asked.specs.Asked.{interrogationJson}
+use Rattle.json_message.specs.Asked.{interrogationJson}
 
 -- by its kind. `radio` is bits 149 to 167, "Radio status" in the AIVDM description's common navigation block. A message that tells nothing, which decoding never
 -- gives, has a head alone

@@ -4,8 +4,8 @@ use mathlib.Core.List.{List, [], _∷_, _++_}
 use Rattle.text_out.specs.Text.{ascii}
 use Rattle.text_out.specs.Digits.{decimalOf}
 use Rattle.json.specs.Json.{member, numberMember}
-use Rattle.json_string.specs.Strings.{stringMember}
-use Rattle.json_reason.specs.Reason.{reasonOf}
+use Rattle.json.specs.Strings.{stringMember}
+use Rattle.json_refused.specs.Reason.{reasonOf}
 
 -- values with a comma (44) between them
 abbrev pub separated : List ℕ → List ℕ

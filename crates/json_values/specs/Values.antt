@@ -11,8 +11,8 @@ use Rattle.navigation.specs.declared.Turn.{Turn}
 use Rattle.interrogation.specs.declared.SlotOffset.{SlotOffset}
 use Rattle.text_out.specs.Text.{ascii}
 use Rattle.json.specs.Json.{nullMember, numberMember, signedMember}
-use Rattle.json_point.specs.Point.{tenthsMember, degreesMember}
-use Rattle.json_string.specs.Strings.{stringMember}
+use Rattle.json.specs.Point.{tenthsMember, degreesMember}
+use Rattle.json.specs.Strings.{stringMember}
 
 -- an object of gpsd's class, with the number of the line in the input, from 1
 abbrev pub opened : ℕ → List ℕ

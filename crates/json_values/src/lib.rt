@@ -32,7 +32,7 @@ pub fn put_text(out: &mut [u8], at: usize, name: &[u8], shown: Text) -> usize
 {
     let bytes = shown.bytes;
     let k = text_out::up_to(shown.len, &bytes);
-    json_string::put_string(out, at, name, &bytes[..k])
+    json::put_string(out, at, name, &bytes[..k])
 }
 
 // A speed or a course, written from its raw number.
@@ -41,7 +41,7 @@ pub fn put_tenths(out: &mut [u8], at: usize, name: &[u8], reading: Reading, raw:
 {
     match reading {
         Reading::Absent => json::put_null(out, at, name),
-        Reading::Value(_) => json_point::put_tenths(out, at, name, raw as u64),
+        Reading::Value(_) => json::put_tenths(out, at, name, raw as u64),
     }
 }
 
@@ -51,7 +51,7 @@ pub fn put_degrees(out: &mut [u8], at: usize, name: &[u8], reading: Reading, raw
 {
     match reading {
         Reading::Absent => json::put_null(out, at, name),
-        Reading::Value(_) => json_point::put_degrees(out, at, name, raw),
+        Reading::Value(_) => json::put_degrees(out, at, name, raw),
     }
 }
 

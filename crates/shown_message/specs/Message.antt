@@ -12,7 +12,7 @@ use Rattle.text_out.specs.Text.{ascii}
 use Rattle.show.specs.Shown.{refusalShown}
 use Rattle.shown_position.specs.Position.{positionShown}
 use Rattle.shown_static.specs.StaticData.{staticShown}
-use Rattle.shown_asked.specs.Asked.{interrogationShown}
+use Rattle.shown_message.specs.Asked.{interrogationShown}
 
 -- "MESSAGE is one of `none`, `position ..`", one of the three of type 24, "`interrogation ..`"
 abbrev pub contentShown : AisMessage → Texts → Interrogation → List ℕ

@@ -3,7 +3,7 @@ use mathlib.Core.Path.{ap, _∙_}
 use lib.IntN.{ℤ}
 use mir.Facts.{toZ-ofZ}
 use Rattle.text_out.specs.Text.{text, put}
-use Rattle.json_point.specs.Point.{degreesMember}
+use Rattle.json.specs.Point.{degreesMember}
 use borrow.Author.Needs.{needs}
 use Rattle.json_values.proofs.put_degrees.Statement.{statement}
 use Rattle.json_values.proofs.put_degrees.Tie as tie

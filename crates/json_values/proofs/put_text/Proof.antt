@@ -5,7 +5,7 @@ use mathlib.Core.List.{List}
 use lib.ListN.{take}
 use Rattle.text_out.specs.Text.{text, put}
 use Rattle.text_out.proofs.Laws.{take-min}
-use Rattle.json_string.specs.Strings.{stringMember}
+use Rattle.json.specs.Strings.{stringMember}
 use borrow.Author.Needs.{needs}
 use Rattle.json_values.proofs.put_text.Statement.{statement}
 use Rattle.json_values.proofs.put_text.Tie as tie

@@ -1,0 +1,26 @@
+-- `json::put_fixed` meets its contract. Assumes nothing.
+use mathlib.Core.List.{[], _∷_}
+use Rattle.text_out.proofs.Laws.{put-then}
+use borrow.Author.Needs.{needs}
+use Rattle.json.proofs.put_fixed.Statement.{statement}
+use Rattle.json.proofs.put_fixed.Tie as tie
+
+put-decimal-requires : tie.Need-put-decimal-requires
+put-decimal-requires c κs = search needs
+
+put-byte-requires : tie.Need-put-byte-requires
+put-byte-requires c κs = search needs
+
+put-six-requires : tie.Need-put-six-requires
+put-six-requires c κs = search needs
+
+same-length : tie.Need-same-length
+same-length c = search needs
+
+returns : tie.Need-returns
+returns c = put-then _ _ _ (c .before .before .before .before .before .before .before .before .before .before .put-decimal .ensures) (put-then _ (46 ∷ []) _ (c .before .before .before .before .before .before .put-byte .ensures) (c .before .before .put-six .ensures))
+
+pub put-fixed-spec : {M : Type 1} → statement M
+put-fixed-spec =
+    tie.close
+    (tie.spec put-decimal-requires put-byte-requires put-six-requires same-length returns)
