@@ -1,17 +1,15 @@
 // Reading a line (sentence.rs, `AisParser::parse`): all the checks in their order, with the record by value. Crate `reader` has the same over a lent record.
 use answer::Answer;
 use reassembly::Fragment;
-use reassembly::Joined;
 use reassembly::Part;
 use reassembly::Record;
 use refusal::Refusal;
 use sentence::AisSentence;
 use sentence::Parsed;
 ghost use mathlib.Core.Path.{_≡_};
-ghost use Rattle.reassembly.specs.Record.{isAlone, outcomeIn};
-ghost use Rattle.answer.specs.Answer.{heardIn};
+ghost use Rattle.reassembly.specs.Record.{isAlone};
 ghost use Rattle.ais.specs.Call.{calledIn, fragmentOf, kindOf, calledOf};
-ghost use Rattle.ais.specs.Parts.{checkedIn, checkOf, refusedAs, LastFits, handing, leaving, receivingOf};
+ghost use Rattle.ais.specs.Parts.{checkedIn, checkOf, refusedAs, receivingOf};
 
 // What the checks before the record tell of a line.
 pub enum Checked {
@@ -55,49 +53,6 @@ pub fn is_alone(s: AisSentence) -> bool
     s.num_fragments == 1
 }
 
-// What is told of a line once it is joined: the refusal, or its payload handed out, of a last line the joined bytes.
-fn tell(
-    joined: Joined,
-    s: AisSentence,
-    own: &[u8],
-    decode: bool,
-    payload: &mut [u8],
-    bits: &mut [u8],
-) -> Answer
-    requires { ⌜ LastFits joined ⌝ }
-    ensures { λ r. ⌜ heardIn r (now (payload .exit)) (now (bits .exit)) ≡ handing (outcomeIn (joined .outcome)) (joined .state) s (now (own .entry)) decode (now (payload .entry)) (now (bits .entry)) ⌝ }
-{
-    let state = joined.state;
-    let outcome = joined.outcome;
-    match outcome {
-        reassembly::Outcome::Refused(refusal) => return answer::refuse(refusal),
-        reassembly::Outcome::Taken(part) => match part {
-            Part::Unfinished => return answer::unfinished(s, own, payload),
-            Part::Alone => return answer::complete(s, own, decode, payload, bits),
-            Part::Last => {
-                let whole = state.bytes;
-                return answer::complete(s, &whole[..state.len], decode, payload, bits);
-            }
-        },
-    }
-}
-
-// The record that is left: emptied where its bytes are handed out.
-fn leave(joined: Joined) -> Record
-    ensures { λ r. ⌜ r ≡ leaving (outcomeIn (joined .outcome)) (joined .state) ⌝ }
-{
-    let state = joined.state;
-    let outcome = joined.outcome;
-    match outcome {
-        reassembly::Outcome::Refused(_) => state,
-        reassembly::Outcome::Taken(part) => match part {
-            Part::Unfinished => state,
-            Part::Alone => state,
-            Part::Last => reassembly::emptied(state),
-        },
-    }
-}
-
 // The record's step on a sentence, with its payload: 4, 5, 6, and then what crate `answer` checks.
 pub fn receive(
     state: Record,
@@ -110,9 +65,28 @@ pub fn receive(
     ensures { λ r. ⌜ calledIn r (now (payload .exit)) (now (bits .exit)) ≡ receivingOf state s (now (own .entry)) decode (now (payload .entry)) (now (bits .entry)) ⌝ }
 {
     let joined = reassembly::join(state, fragment_of(s), own);
-    let answer = tell(joined, s, own, decode, payload, bits);
-    let state = leave(joined);
-    Stepped { state, answer }
+    let state = joined.state;
+    let outcome = joined.outcome;
+    match outcome {
+        reassembly::Outcome::Refused(refusal) => return refused(state, refusal),
+        reassembly::Outcome::Taken(part) => match part {
+            Part::Unfinished => {
+                let answer = answer::unfinished(s, own, payload);
+                return Stepped { state, answer };
+            }
+            Part::Alone => {
+                let answer = answer::complete(s, own, decode, payload, bits);
+                return Stepped { state, answer };
+            }
+            Part::Last => {
+                let whole = state.bytes;
+                let len = state.len;
+                let state = reassembly::emptied(state);
+                let answer = answer::complete(s, &whole[..len], decode, payload, bits);
+                return Stepped { state, answer };
+            }
+        },
+    }
 }
 
 // A line's sentence, where it passes 12, 1, 2 and 3, for buffers of these lengths.

@@ -12,7 +12,6 @@ ghost use mathlib.Core.List.{List};
 ghost use Prim.Native.Nat.{ℕ, _≤_, _*_, _-_};
 ghost use lib.ListN.{length};
 ghost use Rattle.refusal.specs.Words.{over};
-ghost use Rattle.messages.specs.Messages.{noMessage};
 ghost use Rattle.answer.specs.Sentence.{trueType, heardOf, noSentence};
 ghost use Rattle.answer.specs.Answer.{heardIn, refuses, takes, completeOf, unfinishedOf};
 ghost use Rattle.answer.specs.Parts.{Fits, decodedOf};
@@ -157,16 +156,6 @@ fn taken(
     }
 }
 
-// A line that is taken and not decoded.
-fn undecoded(outcome: Outcome, s: AisSentence, handed: &[u8], payload: &mut [u8]) -> Answer
-    requires { ⌜ Fits (now handed) (now payload) ⌝ }
-    ensures { λ r. ⌜ r ≡ takes outcome s (now (handed .entry)) noMessage ⌝ }
-    ensures { λ r. ⌜ now (payload .exit) ≡ over (now (handed .entry)) (now (payload .entry)) ⌝ }
-{
-    let message = messages::nothing();
-    taken(outcome, s, handed, message, payload)
-}
-
 // A complete message, decoded.
 fn decoded(s: AisSentence, handed: &[u8], payload: &mut [u8], bits: &mut [u8]) -> Answer
     requires { ⌜ Fits (now handed) (now payload) ⌝ }
@@ -199,7 +188,8 @@ pub fn complete(
     if decode {
         return decoded(s, handed, payload, bits);
     }
-    undecoded(Outcome::Complete, s, handed, payload)
+    let message = messages::nothing();
+    taken(Outcome::Complete, s, handed, message, payload)
 }
 
 // A line of an unfinished message, with its own payload: 12 and 6. The bit buffer is not asked.
@@ -212,5 +202,6 @@ pub fn unfinished(s: AisSentence, own: &[u8], payload: &mut [u8]) -> Answer
     if 384 < own.len() {
         return refuse(Refusal::PayloadTooLong);
     }
-    undecoded(Outcome::Unfinished, s, own, payload)
+    let message = messages::nothing();
+    taken(Outcome::Unfinished, s, own, message, payload)
 }

@@ -12,8 +12,9 @@ pub fn tell(a: Answer, numbers: &mut [u64], texts: &mut [u8]) -> u32
     ensures { λ _. ⌜ length (messageTexts (a .message)) ≡ 80 ⌝ }
 {
     let outcome = a.outcome;
+    let message = a.message;
     put_answer(numbers, 0, a);
-    message_numbers::put_texts(texts, 0, a.message);
+    message_numbers::put_texts(texts, 0, message);
     sentence_numbers::code(outcome)
 }
 
@@ -22,9 +23,11 @@ fn put_answer(out: &mut [u64], at: usize, a: Answer) -> usize
     ensures { λ r. ⌜ text r (now (out .exit)) ≡ put (text at (now (out .entry))) (answerNumbers a) ⌝ }
 {
     let outcome = a.outcome;
+    let sentence = a.sentence;
+    let message = a.message;
     let values = sentence_numbers::values(outcome);
-    let heard = sentence_numbers::sentence(a.sentence);
+    let heard = sentence_numbers::sentence(sentence);
     let b = numbers::put_numbers(out, at, &values);
     let c = numbers::put_numbers(out, b, &heard);
-    message_numbers::put_message(out, c, a.message)
+    message_numbers::put_message(out, c, message)
 }

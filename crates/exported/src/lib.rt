@@ -58,12 +58,12 @@ fn read_line(
     match ais::check(line, payload.len(), bits.len()) {
         Checked::Refused(refusal) => {
             record_bytes::keep(state);
-            return answer::refuse(refusal);
+            answer::refuse(refusal)
         }
         Checked::Sentence(s) => {
             let start = s.payload_start;
             let end = s.payload_end;
-            return read_sentence(s, &line[start..end], decode, state, payload, bits);
+            read_sentence(s, &line[start..end], decode, state, payload, bits)
         }
     }
 }

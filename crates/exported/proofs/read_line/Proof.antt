@@ -21,15 +21,6 @@ keep-requires c κs = search needs
 refuse-requires : tie.Need-refuse-requires
 refuse-requires c κs = search needs
 
-same-length : tie.Need-same-length
-same-length c = search needs
-
-returns : tie.Need-returns
-returns c =
-    let i = c .before .before .before .before .before .before .before .before .before .before .before .before .before in
-    let a = i .args in
-    leaves-refused (a .state .now) (i .pre) (a .payload .now) (a .bits .now) (a .decode) (a .line .now) _ _ _ (sym (c .before .before .before .before .before .before .before .before .check .ensures) ∙ ap checkedIn (c .before .before .before .before .before .before .refusal .given .1)) (c .refuse .ensures) (c .before .before .before .keep .ensures)
-
 enum-known-s : tie.Need-enum-known-s
 enum-known-s c = search needs
 
@@ -54,6 +45,15 @@ read-sentence-requires c κs =
     let a = i .args in
     (i .pre, its-large (recordIn (a .state .now)) (a .line .now) (a .decode) (a .payload .now) (a .bits .now) _ (sym (c .before .before .before .before .before .before .before .check .ensures) ∙ ap checkedIn (c .before .before .before .before .before .s .given .1)) .room)
 
+same-length : tie.Need-same-length
+same-length c = search needs
+
+returns : tie.Need-returns
+returns c =
+    let i = c .before .before .before .before .before .before .before .before .before .before .before .before .before in
+    let a = i .args in
+    leaves-refused (a .state .now) (i .pre) (a .payload .now) (a .bits .now) (a .decode) (a .line .now) _ _ _ (sym (c .before .before .before .before .before .before .before .before .check .ensures) ∙ ap checkedIn (c .before .before .before .before .before .before .refusal .given .1)) (c .refuse .ensures) (c .before .before .before .keep .ensures)
+
 same-length-2 : tie.Need-same-length-2
 same-length-2 c = search needs
 
@@ -77,13 +77,13 @@ read-line-spec =
     enum-known-refusal
     keep-requires
     refuse-requires
-    same-length
-    returns
     enum-known-s
     sub-read-sentence
     part-read-sentence-start
     part-read-sentence-end
     read-sentence-requires
+    same-length
+    returns
     same-length-2
     same-length-3
     same-length-4
