@@ -1,3 +1,4 @@
 pub mod Armour
 pub mod Unarmor
 pub mod Soundings
+pub mod Spread

@@ -2,11 +2,12 @@
 use refusal::Refusal;
 ghost use mathlib.Core.Path.{_≡_};
 ghost use mathlib.Core.List.{_++_};
-ghost use Prim.Native.Nat.{_*_, _≤_, _<_};
+ghost use Prim.Native.Nat.{ℕ, _*_, _/_, _^_, _≤_, _<_};
 ghost use lib.Dec.{ltb, leb};
-ghost use lib.ListN.{length, drop};
+ghost use lib.ListN.{length, drop, replicate};
 ghost use Rattle.parsers.specs.Bits.{val, pack};
 ghost use Rattle.armour.specs.Armour.{meaning, firstBad, stream};
+ghost use Rattle.armour.specs.Spread.{Spreads, Sixes};
 ghost use Rattle.armour.specs.Unarmor.{Unarmors};
 
 // How many bytes stand first in the output, or why there are none.
@@ -22,6 +23,14 @@ fn is_armour(b: u8) -> bool
     (48 <= b) & (b <= 87) | (96 <= b) & (b <= 119)
 }
 
+// The six-bit value of an armour byte.
+fn value(b: u8) -> u8
+    requires { ⌜ meaning b < 64 ⌝ }
+    ensures { λ r. ⌜ r ≡ meaning b ⌝ }
+{
+    if b < 88 { b - 48 } else { b - 56 }
+}
+
 // The six-bit value of an armour byte, and 64 for any other.
 pub fn six(b: u8) -> u8
     ensures { λ r. ⌜ r ≡ meaning b ⌝ }
@@ -29,7 +38,7 @@ pub fn six(b: u8) -> u8
     if !is_armour(b) {
         return 64;
     }
-    if b < 88 { b - 48 } else { b - 56 }
+    value(b)
 }
 
 // Whether every byte is armour. All are looked at, with no way out between them, so that many can be taken at once.
@@ -62,57 +71,60 @@ fn first_bad(payload: &[u8]) -> usize
     at
 }
 
-// The six bits of character i with the fill cleared, and 0 past the end.
-fn six_at(payload: &[u8], fill: usize, i: usize) -> u32
-    requires { ⌜ fill ≤ 5 ⌝ }
-    ensures { λ r. ⌜ r ≡ val (stream (now (payload .entry)) fill) (i * 6) 6 ⌝ }
+// The six bits of the last character, with the fill cleared.
+fn last_six(b: u8, fill: usize) -> u8
+    requires { ⌜ (meaning b < 64) × (fill ≤ 5) ⌝ }
+    ensures { λ r. ⌜ r ≡ meaning b / 2 ^ fill * 2 ^ fill ⌝ }
 {
-    if i >= payload.len() {
-        return 0;
-    }
-    let v = (six(payload[i]) & 63) as u32;
-    if i < payload.len() - 1 {
-        v
-    } else {
-        (v >> fill) << fill
-    }
+    (value(b) >> fill) << fill
 }
 
-// Byte j of the output: eight of the twelve bits of two characters.
-fn byte_at(payload: &[u8], fill: usize, j: usize) -> u8
-    requires { ⌜ (fill ≤ 5) × (j < 288) ⌝ }
-    ensures { λ r. ⌜ r ≡ val (stream (now (payload .entry)) fill) (j * 8) 8 ⌝ }
+// The six bits of every character of a payload that is all armour, where zeros stood.
+fn put_sixes(payload: &[u8], fill: usize, out: &mut [u8; 384])
+    requires { ⌜ Spreads (now payload) fill × (now out ≡ replicate 384 0) ⌝ }
+    ensures { λ _. ⌜ Sixes (stream (now (payload .entry)) fill) (now (out .exit)) ⌝ }
 {
-    let q = j * 8 / 6;
-    let off = j * 8 % 6;
-    let high = six_at(payload, fill, q);
-    let low = six_at(payload, fill, q + 1);
-    let two = (high << 6) | low;
-    ((two >> (4 - off)) & 255) as u8
+    if payload.len() == 0 {
+        return;
+    }
+    let last = payload.len() - 1;
+    let mut i: usize = 0;
+    while i < last {
+        out[i] = value(payload[i]);
+        i += 1;
+    }
+    out[last] = last_six(payload[last], fill);
+}
+
+// A six-bit value in a number that has room for four.
+fn wide(v: u8) -> u32
+    ensures { λ r. ⌜ r ≡ v ⌝ }
+{
+    v as u32
 }
 
 // Four characters from character i on, as one number.
-fn four_at(payload: &[u8], fill: usize, i: usize) -> u32
-    requires { ⌜ (fill ≤ 5) × (i < 384) ⌝ }
-    ensures { λ r. ⌜ r ≡ val (stream (now (payload .entry)) fill) (i * 6) 24 ⌝ }
+fn four_at(s: &[u8; 384], i: usize) -> u32
+    requires { ⌜ i ≤ 380 ⌝ }
+    ensures { λ r. ⌜ ((f : ℕ → ℕ) → Sixes f (now (s .entry)) → r ≡ val f (i * 6) 24) ⌝ }
 {
-    let a = six_at(payload, fill, i);
-    let b = six_at(payload, fill, i + 1);
-    let c = six_at(payload, fill, i + 2);
-    let d = six_at(payload, fill, i + 3);
+    let a = wide(s[i]);
+    let b = wide(s[i + 1]);
+    let c = wide(s[i + 2]);
+    let d = wide(s[i + 3]);
     let two = (a << 6) | b;
     let three = (two << 6) | c;
     (three << 6) | d
 }
 
 // The first 3 times `groups` bytes of the output, each three from the four characters that they are made of.
-fn put_groups(payload: &[u8], fill: usize, groups: usize, out: &mut [u8])
-    requires { ⌜ (fill ≤ 5) × ((groups ≤ 96) × (groups * 3 ≤ length (now out))) ⌝ }
-    ensures { λ _. ⌜ now (out .exit) ≡ pack 8 (groups * 3) (stream (now (payload .entry)) fill) ++ drop (groups * 3) (now (out .entry)) ⌝ }
+fn put_groups(s: &[u8; 384], groups: usize, out: &mut [u8])
+    requires { ⌜ (groups ≤ 96) × (groups * 3 ≤ length (now out)) ⌝ }
+    ensures { λ _. ⌜ ((f : ℕ → ℕ) → Sixes f (now (s .entry)) → now (out .exit) ≡ pack 8 (groups * 3) f ++ drop (groups * 3) (now (out .entry))) ⌝ }
 {
     let mut k: usize = 0;
     while k < groups {
-        let v = four_at(payload, fill, k * 4);
+        let v = four_at(s, k * 4);
         let j = k * 3;
         out[j] = ((v >> 16) & 255) as u8;
         out[j + 1] = ((v >> 8) & 255) as u8;
@@ -121,22 +133,25 @@ fn put_groups(payload: &[u8], fill: usize, groups: usize, out: &mut [u8])
     }
 }
 
-// The output's `need` bytes, from its start: three at a time, and what is left byte by byte.
+// The output's `need` bytes, from its start: three at a time, and then what is left.
 fn spread(payload: &[u8], fill: usize, need: usize, out: &mut [u8])
-    requires { ⌜ (fill ≤ 5) × ((need ≤ 288) × (need ≤ length (now out))) ⌝ }
+    requires { ⌜ Spreads (now payload) fill × ((need ≤ 288) × (need ≤ length (now out))) ⌝ }
     ensures { λ _. ⌜ now (out .exit) ≡ pack 8 need (stream (now (payload .entry)) fill) ++ drop need (now (out .entry)) ⌝ }
 {
+    let mut s = [0u8; 384];
+    put_sixes(payload, fill, &mut s);
     let groups = need / 3;
-    put_groups(payload, fill, groups, out);
+    put_groups(&s, groups, out);
     let j = groups * 3;
     if need <= j {
         return;
     }
-    out[j] = byte_at(payload, fill, j);
+    let v = four_at(&s, groups * 4);
+    out[j] = ((v >> 16) & 255) as u8;
     if need <= j + 1 {
         return;
     }
-    out[j + 1] = byte_at(payload, fill, j + 1);
+    out[j + 1] = ((v >> 8) & 255) as u8;
 }
 
 // Unarmors a payload of at most 384 characters into `out`: refusals 7, 6, 12 and 8, in that order.

@@ -5,24 +5,24 @@ use Prim.Native.Nat.{ℕ, _+_, _-_, _*_, _/_, _^_, _≤_}
 use native.Mathlib.Omega.{arith}
 use lib.Bits.{bitAnd}
 use lib.ListN.{length, drop, length-set}
-use Rattle.armour.specs.Armour.{stream}
 use Rattle.parsers.specs.Bits.{val, pack}
 use Rattle.parsers.proofs.Laws.{val-field}
-use Rattle.armour.proofs.Laws.{stream-lt, masked-fits, pack-three}
+use Rattle.armour.specs.Spread.{Sixes}
+use Rattle.armour.proofs.Laws.{masked-fits, pack-three}
 use borrow.Author.Needs.{needs}
 use Rattle.armour.proofs.put_groups.Statement.{statement}
 use Rattle.armour.proofs.put_groups.Tie as tie
 
 abbrev Inv-loop : tie.InvT-loop
-Inv-loop payload fill groups out₀ k₀ out k =
-    (k ≤ groups) × ((length out ≡ length out₀) × (out ≡ pack 8 (k * 3) (stream payload fill) ++ drop (k * 3) out₀))
+Inv-loop s groups out₀ k₀ out k =
+    (k ≤ groups) × ((length out ≡ length out₀) × ((f : ℕ → ℕ) → Sixes f s → out ≡ pack 8 (k * 3) f ++ drop (k * 3) out₀))
 
 abbrev μ-loop : tie.MeasureT-loop
-μ-loop payload fill groups out₀ k₀ out k = groups - k
+μ-loop s groups out₀ k₀ out k = groups - k
 
 loop-holds : tie.Need-loop-holds Inv-loop μ-loop
 unfolding pack
-loop-holds c = (omega arith, (refl, refl))
+loop-holds c = (omega arith, (refl, λ f s. refl))
 
 mul-four-at : tie.Need-mul-four-at Inv-loop μ-loop
 mul-four-at c = search needs
@@ -65,21 +65,20 @@ loop-less c = search needs
 
 loop-again : tie.Need-loop-again Inv-loop μ-loop
 loop-again c =
-    let l = c .before .before in
-    let a = l .before .before .before .args in
-    let f = stream (a .payload .now) (a .fill) in
-    let lt = stream-lt (a .payload .now) (a .fill) in
-    let k = l .loop .k in
+    let l = c .before .before .loop in
+    let a = c .before .before .before .before .args in
+    let k = l .k in
     let v = c .four-at .result in
-    let four = c .four-at .ensures in
-    let same : v ≡ v / 2 ^ 0 = omega arith in
-    let last : bitAnd v 255 ≡ val f ((k * 3 + 2) * 8) 8 = ap (λ (n : ℕ). bitAnd n 255) same ∙ val-field f lt (k * 4 * 6) 16 8 0 24 ((k * 3 + 2) * 8) four (omega arith) (omega arith) in (
+    let same : v ≡ v / 2 ^ 0 = omega arith in (
       omega arith,
       (
-        simp length-set (l .loop .inv .1 .0),
-        pack-three f k (a .out .now) (l .loop .out) _ _ _ (omega arith) (l .loop .inv .1 .1)
-            (val-field f lt (k * 4 * 6) 0 8 16 24 (k * 3 * 8) four (omega arith) (omega arith))
-            (val-field f lt (k * 4 * 6) 8 8 8 24 ((k * 3 + 1) * 8) four (omega arith) (omega arith))
+        simp length-set (l .inv .1 .0),
+        λ f s.
+            let four = c .four-at .ensures f s in
+            let last : bitAnd v 255 ≡ val f ((k * 3 + 2) * 8) 8 = ap (λ (n : ℕ). bitAnd n 255) same ∙ val-field f (s .bit) (k * 4 * 6) 16 8 0 24 ((k * 3 + 2) * 8) four (omega arith) (omega arith) in
+            pack-three f k (a .out .now) (l .out) _ _ _ (omega arith) (l .inv .1 .1 f s)
+            (val-field f (s .bit) (k * 4 * 6) 0 8 16 24 (k * 3 * 8) four (omega arith) (omega arith))
+            (val-field f (s .bit) (k * 4 * 6) 8 8 8 24 ((k * 3 + 1) * 8) four (omega arith) (omega arith))
             last,
       ),
     )
@@ -88,9 +87,9 @@ same-length : tie.Need-same-length Inv-loop μ-loop
 same-length c = search needs
 
 returns : tie.Need-returns Inv-loop μ-loop
-returns c =
-    let e : c .before .loop .k ≡ c .before .before .before .before .args .groups = omega arith in
-    rw (← e) (c .before .loop .inv .1 .1)
+returns c f s =
+    let e : c .before .loop .k ≡ c .before .before .before .args .groups = omega arith in
+    rw (← e) (c .before .loop .inv .1 .1 f s)
 
 pub put-groups-spec : {M : Type 1} → statement M
 put-groups-spec =

@@ -4,9 +4,10 @@ use mathlib.Core.List.{List, _++_}
 use Prim.Native.Nat.{ℕ, _+_, _*_, _/_, _≤_}
 use native.Mathlib.Omega.{arith}
 use lib.ListN.{length, set, drop, length-set}
-use Rattle.armour.specs.Armour.{stream}
 use Rattle.parsers.specs.Bits.{val, pack}
-use Rattle.parsers.proofs.Laws.{pack-set}
+use Rattle.parsers.proofs.Laws.{pack-set, val-field}
+use Rattle.armour.specs.Armour.{stream}
+use Rattle.armour.proofs.Laws.{masked-fits}
 use borrow.Author.Needs.{needs}
 use Rattle.armour.proofs.spread.Statement.{statement}
 use Rattle.armour.proofs.spread.Tie as tie
@@ -20,6 +21,9 @@ module _ (f : ℕ → ℕ) (j need : ℕ) (d out : List ℕ) (x : ℕ) where
       → set (set out j x) (j + 1) y ≡ pack 8 need f ++ drop need d
   rest-two y n h e p q = rw (n, e, p, pack-set 8 j f d (omega arith), q, pack-set 8 (j + 1) f d (omega arith))
 
+put-sixes-requires : tie.Need-put-sixes-requires
+put-sixes-requires c κs = search needs
+
 put-groups-requires : tie.Need-put-groups-requires
 put-groups-requires c κs = search needs
 
@@ -31,12 +35,18 @@ same-length c = search needs
 
 returns : tie.Need-returns
 returns c =
-    let p = c .before .before .before in
-    let e : p .before .before .before .before .args .need / 3 * 3 ≡ p .before .before .before .before .args .need = omega (arith, c .if1 .taken) in
-    rw (← e) (p .put-groups .ensures)
+    let a = c .before .before .before .before .before .before .before .before .before .before .args in
+    let e : a .need / 3 * 3 ≡ a .need = omega (arith, c .if1 .taken) in
+    rw (← e) (c .before .before .before .put-groups .ensures (stream (a .payload .now) (a .fill)) (c .before .before .before .before .before .before .put-sixes .ensures))
 
-byte-at-requires : tie.Need-byte-at-requires
-byte-at-requires c κs = search needs
+mul-four-at : tie.Need-mul-four-at
+mul-four-at c = search needs
+
+four-at-requires : tie.Need-four-at-requires
+four-at-requires c κs = search needs
+
+cast-out : tie.Need-cast-out
+cast-out c = search masked-fits
 
 slice-write-out : tie.Need-slice-write-out
 slice-write-out c = search needs
@@ -49,15 +59,16 @@ same-length-2 c = search needs
 
 returns-2 : tie.Need-returns-2
 returns-2 c =
-    let p = c .before .before .before .before .before in
-    let a = p .before .before .before .before .args in
-    rest-one (stream (a .payload .now) (a .fill)) (a .need / 3 * 3) (a .need) (a .out .now) _ _ (omega (arith, c .if2 .taken, c .before .before .if1 .left)) (p .before .before .before .before .pre .1 .1) (p .put-groups .ensures) (c .before .byte-at .ensures)
+    let i = c .before .before .before .before .before .before .before .before .before .before .before .before .before in
+    let a = i .args in
+    let f = stream (a .payload .now) (a .fill) in
+    let s = c .before .before .before .before .before .before .before .before .before .put-sixes .ensures in
+    let g = a .need / 3 in
+    rest-one f (g * 3) (a .need) (a .out .now) _ _ (omega (arith, c .if2 .taken, c .before .before .before .if1 .left)) (i .pre .1 .1) (c .before .before .before .before .before .before .put-groups .ensures f s)
+    (val-field f (s .bit) (g * 4 * 6) 0 8 16 24 (g * 3 * 8) (c .before .four-at .ensures f s) (omega arith) (omega arith))
 
-add-byte-at : tie.Need-add-byte-at
-add-byte-at c = search needs
-
-byte-at-requires-2 : tie.Need-byte-at-requires-2
-byte-at-requires-2 c κs = search needs
+cast-out-2 : tie.Need-cast-out-2
+cast-out-2 c = search masked-fits
 
 add-out : tie.Need-add-out
 add-out c = search needs
@@ -70,25 +81,33 @@ same-length-3 c = search needs
 
 returns-3 : tie.Need-returns-3
 returns-3 c =
-    let p = c .before .before .before .before .before .before in
-    let a = p .before .before .before .before .args in
-    rest-two (stream (a .payload .now) (a .fill)) (a .need / 3 * 3) (a .need) (a .out .now) _ _ _ (omega (arith, c .before .if2 .left)) (p .before .before .before .before .pre .1 .1) (p .put-groups .ensures) (c .before .before .byte-at .ensures) (c .byte-at2 .ensures)
+    let i = c .before .before .before .before .before .before .before .before .before .before .before .before .before in
+    let a = i .args in
+    let f = stream (a .payload .now) (a .fill) in
+    let s = c .before .before .before .before .before .before .before .before .before .put-sixes .ensures in
+    let g = a .need / 3 in
+    let four = c .before .four-at .ensures f s in
+    rest-two f (g * 3) (a .need) (a .out .now) _ _ _ (omega (arith, c .if2 .left)) (i .pre .1 .1) (c .before .before .before .before .before .before .put-groups .ensures f s)
+    (val-field f (s .bit) (g * 4 * 6) 0 8 16 24 (g * 3 * 8) four (omega arith) (omega arith))
+    (val-field f (s .bit) (g * 4 * 6) 8 8 8 24 ((g * 3 + 1) * 8) four (omega arith) (omega arith))
 
 pub spread-spec : {M : Type 1} → statement M
 spread-spec =
     tie.close
     (tie.spec
+    put-sixes-requires
     put-groups-requires
     mul-j
     same-length
     returns
-    byte-at-requires
+    mul-four-at
+    four-at-requires
+    cast-out
     slice-write-out
     add-if2
     same-length-2
     returns-2
-    add-byte-at
-    byte-at-requires-2
+    cast-out-2
     add-out
     slice-write-out-2
     same-length-3

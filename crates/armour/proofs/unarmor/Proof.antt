@@ -54,7 +54,9 @@ returns-5 c =
     (ap (λ (x : ℕ). refused 8 (x ∷ [])) (c .first-bad .ensures)) refl
 
 spread-requires : tie.Need-spread-requires
-spread-requires c κs = search needs
+spread-requires c κs =
+    let good = leb-true _ _ (sym (c .before .before .all-armour .ensures) ∙ not-false _ (c .before .if6 .left)) in
+    (record { filled = search needs; few = search needs; armour = good }, search needs)
 
 same-length : tie.Need-same-length
 same-length c = search needs

@@ -1,0 +1,89 @@
+-- `put_sixes`: the first i characters stand there, and zeros behind them; the last has the fill cleared. Assumes nothing.
+use mathlib.Core.Path.{_≡_, _∙_}
+use Prim.Native.Nat.{_+_, _-_, _≤_}
+use native.Mathlib.Omega.{arith}
+use lib.ListN.{length}
+use Rattle.armour.specs.Armour.{stream}
+use Rattle.armour.proofs.Sixes.{Begun, begun, begun-more, good, inner, last, all}
+use borrow.Author.Needs.{needs}
+use Rattle.armour.proofs.put_sixes.Statement.{statement}
+use Rattle.armour.proofs.put_sixes.Tie as tie
+
+abbrev Inv-loop : tie.InvT-loop
+Inv-loop payload fill out₀ last i₀ out i = (i ≤ last) × Begun (stream payload fill) i out
+
+abbrev μ-loop : tie.MeasureT-loop
+μ-loop payload fill out₀ last i₀ out i = last - i
+
+returns : tie.Need-returns Inv-loop μ-loop
+returns c =
+    let i = c .before .before in
+    let a = i .args in
+    rw (i .pre .1) (all (a .payload .now) (a .fill) (i .pre .0) 0 _ (omega arith) (begun _))
+
+sub-last : tie.Need-sub-last Inv-loop μ-loop
+sub-last c = search needs
+
+loop-holds : tie.Need-loop-holds Inv-loop μ-loop
+loop-holds c = (omega arith, rw (c .before .before .pre .1) (begun _))
+
+shared-slice-read-value : tie.Need-shared-slice-read-value Inv-loop μ-loop
+shared-slice-read-value c = search needs
+
+value-requires : tie.Need-value-requires Inv-loop μ-loop
+value-requires c κs = good _ _ (c .before .before .before .before .before .pre .0) (c .before .before .loop .i) (omega arith)
+
+element-write-out : tie.Need-element-write-out Inv-loop μ-loop
+element-write-out c = omega (arith, c .before .before .before .before .before .before .pre .0 .few)
+
+add-i : tie.Need-add-i Inv-loop μ-loop
+add-i c = search needs
+
+loop-less : tie.Need-loop-less Inv-loop μ-loop
+loop-less c = search needs
+
+loop-again : tie.Need-loop-again Inv-loop μ-loop
+loop-again c =
+    let l = c .before .before .before .loop in
+    let i = c .before .before .before .before .before .before in
+    (omega arith, begun-more _ (l .i) _ (l .out) (l .inv .1) (omega (arith, i .pre .0 .few)) (c .value .ensures ∙ inner _ _ (i .pre .0) (l .i) (omega arith)))
+
+shared-slice-read-last-six : tie.Need-shared-slice-read-last-six Inv-loop μ-loop
+shared-slice-read-last-six c = search needs
+
+last-six-requires : tie.Need-last-six-requires Inv-loop μ-loop
+last-six-requires c κs =
+    (good _ _ (c .before .before .before .before .before .pre .0) _ (omega arith), c .before .before .before .before .before .pre .0 .filled)
+
+element-write-out-2 : tie.Need-element-write-out-2 Inv-loop μ-loop
+element-write-out-2 c = omega (arith, c .before .before .before .before .before .before .pre .0 .few)
+
+returns-2 : tie.Need-returns-2 Inv-loop μ-loop
+returns-2 c =
+    let l = c .before .before .before .loop in
+    let i = c .before .before .before .before .before .before in
+    let a = i .args in
+    let n = length (a .payload .now) - 1 in
+    let e : l .i ≡ n = omega arith in
+    let six = c .last-six .ensures ∙ last _ _ (i .pre .0) n (omega arith) in
+    all (a .payload .now) (a .fill) (i .pre .0) (n + 1) _ (omega arith) (begun-more _ n _ (l .out) (rw e at (l .inv .1)) (omega (arith, i .pre .0 .few)) six)
+
+pub put-sixes-spec : {M : Type 1} → statement M
+put-sixes-spec =
+    tie.close
+    (tie.spec
+    Inv-loop
+    μ-loop
+    returns
+    sub-last
+    loop-holds
+    shared-slice-read-value
+    value-requires
+    element-write-out
+    add-i
+    loop-less
+    loop-again
+    shared-slice-read-last-six
+    last-six-requires
+    element-write-out-2
+    returns-2)
