@@ -5,6 +5,8 @@
 mod streams;
 
 use std::hint::black_box;
+use std::io::Write;
+use std::process::Command;
 use streams::{Line, Stream};
 
 #[repr(C)]
@@ -90,14 +92,57 @@ fn measure(stream: &Stream, rounds: usize) {
     println!("{:<44} {a:>8.0} {b:>8.0} {ratio:>7.2} {least:>6.2}..{most:<6.2} {c:>8.0}", stream.name);
 }
 
+/// What a side is called on the command line, and how it reads.
+const SIDES: [(&str, fn(&[Line], usize)); 2] = [("ours", ours), ("crate", theirs)];
+
+/// The instructions that a run of this program takes which reads a stream so many times with one side, by callgrind.
+fn instructions(sample: &str, side: &str, stream: usize, times: usize) -> f64 {
+    let this = std::env::current_exe().expect("this program's path");
+    let words = ["--tool=callgrind", "--callgrind-out-file=/dev/null"];
+    let run = Command::new("valgrind").args(words).arg(this).args([sample, "read", side, &stream.to_string(), &times.to_string()]).output();
+    let said = String::from_utf8(run.expect("valgrind, a package of Debian's").stderr).expect("what valgrind says");
+    let count = said.lines().find_map(|line| line.split_once("Collected : ")).expect("callgrind's count").1;
+    count.trim().parse().expect("a number of instructions")
+}
+
+/// Prints a stream's row: instructions for a line, from two runs of which one reads the lines twice more.
+fn count(sample: &str, at: usize, stream: &Stream) {
+    let a_line = |side| (instructions(sample, side, at, 3) - instructions(sample, side, at, 1)) / (2 * stream.lines.len()) as f64;
+    let [a, b] = SIDES.map(|(side, _)| a_line(side));
+    println!("{:<44} {a:>8.0} {b:>8.0} {:>7.2}", stream.name, a / b);
+}
+
+/// Writes so many lines, position reports and the published lines by turns.
+fn write_lines(streams: &[Stream], count: usize) {
+    let lines = streams[0].lines.iter().chain(&streams[1].lines);
+    let mut out = std::io::BufWriter::new(std::io::stdout());
+    for line in lines.cycle().take(count) {
+        out.write_all(&line.text).and_then(|()| out.write_all(b"\r\n")).expect("room for the lines");
+    }
+}
+
 fn main() {
-    let mut words = std::env::args().skip(1);
-    let sample = words.next().expect("the file of published lines");
-    let rounds = words.next().map_or(15, |n| n.parse().expect("how many rounds"));
-    let wanted = words.next().unwrap_or_default();
-    println!("nanoseconds for a line; ratio: ours / the crate's; typed: ours, with the wrapper's types");
-    println!("{:<44} {:>8} {:>8} {:>7} {:>14} {:>8}", "stream", "ours", "crate", "ratio", "least..most", "typed");
-    for stream in streams::all(&sample).iter().filter(|stream| stream.name.contains(&wanted)) {
-        measure(stream, rounds);
+    let words: Vec<String> = std::env::args().skip(1).collect();
+    let words: Vec<&str> = words.iter().map(String::as_str).collect();
+    let number = |word: &str| word.parse::<usize>().expect("a number");
+    let streams = streams::all(words.first().expect("the file of published lines"));
+    let wanted = |word: &str| streams.iter().enumerate().filter(move |(_, stream)| stream.name.contains(word)).collect::<Vec<_>>();
+    match words[1..] {
+        ["time", rounds, some] => {
+            println!("nanoseconds for a line; ratio: ours / the crate's; typed: ours, with the wrapper's types");
+            println!("{:<44} {:>8} {:>8} {:>7} {:>14} {:>8}", "stream", "ours", "crate", "ratio", "least..most", "typed");
+            wanted(some).into_iter().for_each(|(_, stream)| measure(stream, number(rounds)));
+        }
+        ["count", some] => {
+            println!("instructions for a line; ratio: ours / the crate's");
+            println!("{:<44} {:>8} {:>8} {:>7}", "stream", "ours", "crate", "ratio");
+            wanted(some).into_iter().for_each(|(at, stream)| count(words[0], at, stream));
+        }
+        ["read", side, at, times] => {
+            let (_, read) = SIDES.iter().find(|(name, _)| *name == side).expect("a side");
+            read(&streams[number(at)].lines, number(times));
+        }
+        ["lines", many] => write_lines(&streams, number(many)),
+        _ => panic!("time ROUNDS STREAM, count STREAM, read SIDE STREAM TIMES, or lines COUNT"),
     }
 }
