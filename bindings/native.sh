@@ -7,7 +7,7 @@ native=$root/target/native
 # Whether a file is there and no source is newer.
 is_built() { [ -e "$1" ] && [ -z "$(find "$root/crates" -name '*.rt' -newer "$1" -print -quit)" ]; }
 
-# The installed kit, but for its compiler, which keeps the module at $KEEP.
+# The installed kit, but for its compiler, which keeps the module that it is handed.
 kit_that_keeps() {
     local kit machine=on/$(uname -m) part
     kit=$(rt doc)
@@ -19,7 +19,7 @@ kit_that_keeps() {
         case $part in on | "$machine/toolchain" | "$machine/toolchain/bin" | "$machine/toolchain/bin/clang") continue ;; esac
         ln -sfn "$kit/$part" "$native/kit/$part"
     done
-    printf '#!/bin/sh\n[ ! -f module.bc ] || cp module.bc "$KEEP"\nexec "%s" "$@"\n' "$clang" >"$native/kit/$machine/toolchain/bin/clang"
+    printf '#!/bin/sh\n[ ! -f module.bc ] || cp module.bc "%s"\nexec "%s" "$@"\n' "$native/module.bc" "$clang" >"$native/kit/$machine/toolchain/bin/clang"
     chmod +x "$native/kit/$machine/toolchain/bin/clang"
 }
 
@@ -27,32 +27,33 @@ kit_that_keeps() {
 object() {
     local crate=$1 clang
     kit_that_keeps
-    rm -f "$native/$crate.bc"
-    (cd "$root" && KEEP=$native/$crate.bc RATTLE_HOME=$native/kit rt "$2" "$crate") >&2
-    "$clang" --target=x86_64-unknown-linux-gnu -S -emit-llvm -Xclang -disable-llvm-passes -x ir "$native/$crate.bc" -o "$native/$crate.ll"
-    sed -i -e '/^target /d' -e 's/ "target-cpu"="[^"]*"//; s/ "target-features"="[^"]*"//' "$native/$crate.ll"
-    "$clang" -c -x ir "$native/$crate.ll" -o "$native/$crate.o" -fPIC -O3 -ffunction-sections -fdata-sections \
-        -Xclang -fmerge-functions -mllvm -mergefunc-use-aliases -mllvm -trap-unreachable -mllvm -no-trap-after-noreturn
+    rm -f "$native/module.bc"
+    (cd "$root" && RATTLE_HOME=$native/kit rt "$2" "$crate") &&
+        "$clang" --target=x86_64-unknown-linux-gnu -S -emit-llvm -Xclang -disable-llvm-passes -x ir "$native/module.bc" -o "$native/$crate.ll" &&
+        sed -i -e '/^target /d' -e 's/ "target-cpu"="[^"]*"//; s/ "target-features"="[^"]*"//' "$native/$crate.ll" &&
+        "$clang" -c -x ir "$native/$crate.ll" -o "$native/$crate.o" -fPIC -O3 -ffunction-sections -fdata-sections -mllvm -trap-unreachable -mllvm -no-trap-after-noreturn
 }
 
 # archive CRATE: the folder that has libCRATE.a for this processor, built where it is missing or older than a source.
 archive() {
+    local folder=$native
     if [ "$(uname -m)" = x86_64 ]; then
-        is_built "$root/target/staticlib/lib$1.a" || (cd "$root" && rt staticlib "$1") >&2
-        printf '%s\n' "$root/target/staticlib"
+        folder=$root/target/staticlib
+        is_built "$folder/lib$1.a" || (cd "$root" && rt staticlib "$1") >&2 || return 1
     else
-        is_built "$native/lib$1.a" || { object "$1" staticlib && rm -f "$native/lib$1.a" && ar rcs "$native/lib$1.a" "$native/$1.o"; } >&2
-        printf '%s\n' "$native"
+        is_built "$folder/lib$1.a" || { object "$1" staticlib && rm -f "$folder/lib$1.a" && ar rcs "$folder/lib$1.a" "$folder/$1.o"; } >&2 || return 1
     fi
+    printf '%s\n' "$folder"
 }
 
 # program CRATE: a program for this processor, likewise.
 program() {
+    local file=$native/$1
     if [ "$(uname -m)" = x86_64 ]; then
-        is_built "$root/target/bin/$1" || (cd "$root" && rt check "$1") >&2
-        printf '%s\n' "$root/target/bin/$1"
+        file=$root/target/bin/$1
+        is_built "$file" || (cd "$root" && rt check "$1") >&2 || return 1
     else
-        is_built "$native/$1" || { rm -f "$root/target/stamp/$1" && object "$1" check && cc -o "$native/$1" "$native/$1.o"; } >&2
-        printf '%s\n' "$native/$1"
+        is_built "$file" || { rm -f "$root/target/stamp/$1" && object "$1" check && cc -o "$file" "$file.o"; } >&2 || return 1
     fi
+    printf '%s\n' "$file"
 }
