@@ -1,78 +1,74 @@
 -- Checks taken in order, once for every list of them: a refusal is given exactly when its condition holds and none earlier does. Assumes nothing.
-use mathlib.Core.Logic.{_↔_}
-use mathlib.Core.Path.{_≡_, refl, sym, ap, subst}
-use mathlib.Core.Bool.{Bool, true, false, not, _&&_, and-eq-true-iff}
+use mathlib.Core.Logic.{_↔_, _⊎_, inl, inr}
+use mathlib.Core.Path.{_≡_, refl, sym, ap, subst, _∙_}
+use mathlib.Core.Bool.{Bool, true, false}
 use mathlib.Core.List.{List, [], _∷_, _++_, append-nil}
 use Prim.Native.Nat.{ℕ}
 use native.Mathlib.Omega.{arith}
-use borrow.Author.Tests.{eqb-false, not-true}
-use lib.Dec.{eqb}
 use Rattle.refusal.specs.Words.{Told, taken, refused, numberIn, Check, checked, pick}
-use Rattle.refusal.specs.Order.{differs, distinct, Passed}
+use Rattle.refusal.specs.Order.{Passed, First}
 
 -- a result is no refusal
 clash : {A : Type 0} (a : A) (n : ℕ) (values : List ℕ) → taken a ≡ refused n values → ⊥
 clash a n values e = let z : _≡_ {A = ℕ} 0 1 = cc in omega arith
 
--- the first and the rest of what `differs` says
-module _ (n : ℕ) (c : Check) (cs : List Check) (d : differs n (c ∷ cs) ≡ true) where
-  differs-first : c .number ≡ n → ⊥
-  differs-first = eqb-false (c .number) n (not-true (eqb (c .number) n) (and-eq-true-iff (not (eqb (c .number) n)) (differs n cs) .0 d .0))
+-- where all checks pass, what is then to be told is told
+pub passing : {A : Type 0} (cs : List Check) (t : Told A) → Passed cs → checked cs t ≡ t
+passing [] t p = refl
+passing (c ∷ cs) t p = rw (p .0) (passing cs t (p .1))
 
-  differs-rest : differs n cs ≡ true
-  differs-rest = and-eq-true-iff (not (eqb (c .number) n)) (differs n cs) .0 d .1
+-- the check whose refusal is told is the first that fails, by its place: two checks of a list may bear one number
+pub given : {A : Type 0} (before : List Check) (c : Check) (after : List Check) (t : Told A) → Passed before → c .fails ≡ true
+    → checked (before ++ c ∷ after) t ≡ refused (c .number) (c .values)
+given [] c after t p f = rw f
+given (b ∷ before) c after t p f = rw (p .0) (given before c after t (p .1) f)
 
-differs-at : (n : ℕ) (before : List Check) (c : Check) (after : List Check) → differs n (before ++ c ∷ after) ≡ true → c .number ≡ n → ⊥
-differs-at n [] c after d = differs-first n c after d
-differs-at n (b ∷ before) c after d = differs-at n before c after (differs-rest n b (before ++ c ∷ after) d)
+-- one check that passes, before the first that fails
+further : (c : Check) (cs : List Check) (n : ℕ) (values : List ℕ) → c .fails ≡ false → First cs n values → First (c ∷ cs) n values
+further c cs n values p f = record {
+  before = c ∷ f .before;
+  named = f .named;
+  after = f .after;
+  stands = ap (λ (l : List Check). c ∷ l) (f .stands);
+  passed = (p, f .passed);
+  fails = f .fails;
+  number = f .number;
+  told = f .told;
+}
 
--- the three parts of what `distinct` says
-module _ (c : Check) (cs : List Check) (d : distinct (c ∷ cs) ≡ true) where
-  parts : (differs (c .number) cs ≡ true) × (not (eqb (c .number) 0) && distinct cs ≡ true)
-  parts = and-eq-true-iff (differs (c .number) cs) (not (eqb (c .number) 0) && distinct cs) .0 d
+pub found : {A : Type 0} (cs : List Check) (t : Told A) (n : ℕ) (values : List ℕ) → checked cs t ≡ refused n values
+    → First cs n values ⊎ (Passed cs × (t ≡ refused n values))
+found [] t n values e = inr (tt, e)
+found (c ∷ cs) t n values e = go (c .fails) refl e (found cs t n values) where
+  go : (f : Bool) → c .fails ≡ f → pick f (refused (c .number) (c .values)) (checked cs t) ≡ refused n values
+      → (checked cs t ≡ refused n values → First cs n values ⊎ (Passed cs × (t ≡ refused n values)))
+      → First (c ∷ cs) n values ⊎ (Passed (c ∷ cs) × (t ≡ refused n values))
+  go true p e more = inl (record { before = []; named = c; after = cs; stands = refl; passed = tt; fails = p; number = cc; told = cc })
+  go false p e more = on (more e) where
+    on : First cs n values ⊎ (Passed cs × (t ≡ refused n values)) → First (c ∷ cs) n values ⊎ (Passed (c ∷ cs) × (t ≡ refused n values))
+    on (inl f) = inl (further c cs n values p f)
+    on (inr q) = inr ((p, q .0), q .1)
 
-  distinct-first : differs (c .number) cs ≡ true
-  distinct-first = parts .0
+first-told : {A : Type 0} (cs : List Check) (t : Told A) (n : ℕ) (values : List ℕ) → First cs n values → checked cs t ≡ refused n values
+first-told cs t n values f =
+    let e : checked (f .before ++ f .named ∷ f .after) t ≡ refused (f .named .number) (f .named .values) =
+    given (f .before) (f .named) (f .after) t (f .passed) (f .fails) in
+    ap (λ (l : List Check). checked l t) (f .stands) ∙ e ∙ ap (λ (m : ℕ). refused m (f .named .values)) (f .number) ∙ ap (refused n) (f .told)
 
-  distinct-zero : c .number ≡ 0 → ⊥
-  distinct-zero = eqb-false (c .number) 0 (not-true (eqb (c .number) 0) (and-eq-true-iff (not (eqb (c .number) 0)) (distinct cs) .0 (parts .1) .0))
+-- the theorem, of any list of checks and of whatever is told where all of them pass
+pub exactly-told : {A : Type 0} (cs : List Check) (t : Told A) (n : ℕ) (values : List ℕ)
+    → (checked cs t ≡ refused n values) ↔ (First cs n values ⊎ (Passed cs × (t ≡ refused n values)))
+exactly-told {A} cs t n values = (found cs t n values, back) where
+  back : First cs n values ⊎ (Passed cs × (t ≡ refused n values)) → checked cs t ≡ refused n values
+  back (inl f) = first-told cs t n values f
+  back (inr p) = passing cs t (p .0) ∙ p .1
 
-  distinct-rest : distinct cs ≡ true
-  distinct-rest = and-eq-true-iff (not (eqb (c .number) 0)) (distinct cs) .0 (parts .1) .1
-
-module _ (A : Type 0) (a : A) where
-  -- a number that no check bears is not told
-  nowhere : (n : ℕ) (cs : List Check) → differs n cs ≡ true → (n ≡ 0 → ⊥) → numberIn (checked cs (taken a)) ≡ n → ⊥
-  nowhere n [] d z e = z (sym e)
-  nowhere n (c ∷ cs) d z e = go (c .fails) e (nowhere n cs (differs-rest n c cs d) z) where
-    go : (f : Bool) → numberIn (pick f (refused (c .number) (c .values)) (checked cs (taken a))) ≡ n → (numberIn (checked cs (taken a)) ≡ n → ⊥) → ⊥
-    go true e later = differs-first n c cs d e
-    go false e later = later e
-
-  only : (before : List Check) (c : Check) (after : List Check) → distinct (before ++ c ∷ after) ≡ true
-      → numberIn (checked (before ++ c ∷ after) (taken a)) ≡ c .number → Passed before × (c .fails ≡ true)
-  only [] c after d e = (tt, go (c .fails) e) where
-    go : (f : Bool) → numberIn (pick f (refused (c .number) (c .values)) (checked after (taken a))) ≡ c .number → f ≡ true
-    go true e = refl
-    go false e = absurd (nowhere (c .number) after (distinct-first c after d) (distinct-zero c after d) e)
-  only (b ∷ before) c after d e =
-      go (b .fails) refl e (only before c after (distinct-rest b (before ++ c ∷ after) d)) where
-        go : (f : Bool) → b .fails ≡ f → numberIn (pick f (refused (b .number) (b .values)) (checked (before ++ c ∷ after) (taken a))) ≡ c .number
-            → (numberIn (checked (before ++ c ∷ after) (taken a)) ≡ c .number → Passed before × (c .fails ≡ true))
-            → ((b .fails ≡ false) × Passed before) × (c .fails ≡ true)
-        go true p e later = absurd (differs-at (b .number) before c after (distinct-first b (before ++ c ∷ after) d) (sym e))
-        go false p e later = let r = later e in ((p, r .0), r .1)
-
-  pub given : (before : List Check) (c : Check) (after : List Check) → Passed before → c .fails ≡ true
-      → checked (before ++ c ∷ after) (taken a) ≡ refused (c .number) (c .values)
-  given [] c after p f = rw f
-  given (b ∷ before) c after p f = rw (p .0) (given before c after (p .1) f)
-
-  -- the theorem: the check whose number is told is the first that fails
-  pub exactly : (cs before : List Check) (c : Check) (after : List Check) → cs ≡ before ++ c ∷ after → distinct cs ≡ true
-      → (numberIn (checked cs (taken a)) ≡ c .number) ↔ (Passed before × (c .fails ≡ true))
-  exactly cs before c after e d =
-      rw e (only before c after (rw e at d), λ p. ap numberIn (given before c after (p .0) (p .1)))
+-- and of a call that is taken where all of them pass: a refusal is given exactly if a check gives it and none before that one fails
+pub exactly : {A : Type 0} (cs : List Check) (a : A) (n : ℕ) (values : List ℕ) → (checked cs (taken a) ≡ refused n values) ↔ First cs n values
+exactly {A} cs a n values = (λ e. on (found cs (taken a) n values e), first-told cs (taken a) n values) where
+  on : First cs n values ⊎ (Passed cs × (taken a ≡ refused n values)) → First cs n values
+  on (inl f) = f
+  on (inr p) = absurd (clash a n values (p .1))
 
 -- checks that are followed by others: where all of them pass the others decide, and where one fails it is told
 pub later : {A : Type 0} (before after : List Check) (t : Told A) → Passed before → checked (before ++ after) t ≡ checked after t
@@ -106,11 +102,8 @@ taken-same (c ∷ cs) a b e = go (c .fails) e (taken-same cs a b) where
   go false e more = more e
 
 -- what checks tell does not depend on what is to be taken
-pub passing : {A : Type 0} (cs : List Check) (t : Told A) → Passed cs → checked cs t ≡ t
-passing [] t p = refl
-passing (c ∷ cs) t p = rw (p .0) (passing cs t (p .1))
-
-pub failing : {A B : Type 0} (cs : List Check) (a : A) (t : Told B) (n : ℕ) (values : List ℕ) → checked cs (taken a) ≡ refused n values → checked cs t ≡ refused n values
+pub failing : {A B : Type 0} (cs : List Check) (a : A) (t : Told B) (n : ℕ) (values : List ℕ) → checked cs (taken a) ≡ refused n values
+    → checked cs t ≡ refused n values
 failing cs a t n values e = rw append-nil at (stops cs [] a t n values e)
 
 -- the number told is one that a check bears: what holds of each holds of it

@@ -6,6 +6,7 @@ use lib.Dec.{eqb}
 use lib.ListN.{getD}
 use Rattle.refusal.specs.Words.{pick}
 use Rattle.refusal.specs.declared.Refusal.{Refusal}
+use Rattle.refusal.proofs.Unique.{byNumber}
 use Rattle.sentence.specs.declared.TalkerId.{TalkerId}
 use Rattle.sentence.specs.declared.AisReportType.{AisReportType}
 use Rattle.sentence.specs.declared.Number.{Number}
@@ -17,24 +18,8 @@ use Rattle.answer.specs.declared.Sentence.{Sentence}
 use Rattle.sentence_numbers.specs.Sentence.{codeOf, valuesOf, talkerNumber, reportNumber, idIn, channelIn, typeIn, sentenceNumbers}
 
 -- ---- the outcome
-abbrev refusalBy : ℕ → ℕ → ℕ → Refusal
-refusalBy n a b =
-    pick (eqb n 1) Refusal.LineTooLong (
-    pick (eqb n 2) Refusal.Line (
-    pick (eqb n 3) (Refusal.Checksum a b) (
-    pick (eqb n 4) Refusal.MessageNumber (
-    pick (eqb n 5) Refusal.FragmentNumber (
-    pick (eqb n 6) Refusal.PayloadTooLong (
-    pick (eqb n 7) Refusal.Fill (
-    pick (eqb n 8) (Refusal.Armour a) (
-    pick (eqb n 9) Refusal.Short (
-    pick (eqb n 10) (Refusal.OtherType a) (
-    pick (eqb n 11) (Refusal.UnknownType a) (
-    pick (eqb n 12) Refusal.Room (
-    Refusal.Request))))))))))))
-
 abbrev outcomeBy : ℕ → List ℕ → Outcome
-outcomeBy code values = pick (eqb code 0) Outcome.Complete (pick (eqb code 100) Outcome.Unfinished (Outcome.Refused (refusalBy code (getD values 0 0) (getD values 1 0))))
+outcomeBy code values = pick (eqb code 0) Outcome.Complete (pick (eqb code 100) Outcome.Unfinished (Outcome.Refused (byNumber code values)))
 
 refusal-back : (r : Refusal) → outcomeBy (codeOf (outcomeIn (Outcome.Refused r))) (valuesOf (outcomeIn (Outcome.Refused r))) ≡ Outcome.Refused r
 refusal-back Refusal.LineTooLong = refl
@@ -124,7 +109,8 @@ sentenceBy l = record {
 }
 
 sentence-back : (s : Sentence) → sentenceBy (sentenceNumbers s) ≡ s
-sentence-back s = rw (talker-back (s .«talker_id»), report-back (s .«report_type»), id-back (s .«message_id»), channel-back (s .channel), type-back (s .«true_type»))
+sentence-back s =
+    rw (talker-back (s .«talker_id»), report-back (s .«report_type»), id-back (s .«message_id»), channel-back (s .channel), type-back (s .«true_type»))
 
 pub same-sentence : (s t : Sentence) → sentenceNumbers s ≡ sentenceNumbers t → s ≡ t
 same-sentence s t e = sym (sentence-back s) ∙ ap sentenceBy e ∙ sentence-back t

@@ -1,4 +1,4 @@
-pub mod Rows
+pub mod Table
 pub mod Laws
 pub mod Lengths
 pub mod Sound

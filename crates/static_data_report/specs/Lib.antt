@@ -1,3 +1,3 @@
-pub mod Rows
+pub mod Table
 pub mod StaticData
 pub mod Sound

@@ -1,6 +1,7 @@
 // The static data report, type 24 (messages/static_data_report.rs).
 use parsers::Text;
 ghost use mathlib.Core.Path.{_≡_};
+ghost use Rattle.static_data_report.specs.Table.{table};
 ghost use Rattle.static_data_report.specs.StaticData.{noTexts, nameOf, partBOf, partBTextsOf, reportOf, noReport, staticDataOf};
 
 // Part B's numbers. The ship type is the number as sent.
@@ -65,7 +66,7 @@ pub fn no_texts() -> Texts
 
 // The text of part A.
 fn name_of(bytes: &[u8]) -> Texts
-    ensures { λ r. ⌜ r ≡ nameOf (now (bytes .entry)) ⌝ }
+    ensures { λ r. ⌜ r ≡ nameOf table (now (bytes .entry)) ⌝ }
 {
     let mut texts = no_texts();
     texts.vessel_name = parsers::parse_6bit_ascii(bytes, 40, 120);
@@ -74,7 +75,7 @@ fn name_of(bytes: &[u8]) -> Texts
 
 // The numbers of part B.
 fn part_b_of(bytes: &[u8]) -> PartB
-    ensures { λ r. ⌜ r ≡ partBOf (now (bytes .entry)) ⌝ }
+    ensures { λ r. ⌜ r ≡ partBOf table (now (bytes .entry)) ⌝ }
 {
     PartB {
         ship_type: parsers::field(bytes, 40, 8) as u8,
@@ -89,7 +90,7 @@ fn part_b_of(bytes: &[u8]) -> PartB
 
 // The texts of part B: the 24 bits of model and serial are shown both ways.
 fn part_b_texts_of(bytes: &[u8]) -> Texts
-    ensures { λ r. ⌜ r ≡ partBTextsOf (now (bytes .entry)) ⌝ }
+    ensures { λ r. ⌜ r ≡ partBTextsOf table (now (bytes .entry)) ⌝ }
 {
     let mut texts = no_texts();
     texts.vendor_id = parsers::parse_6bit_ascii(bytes, 48, 18);
@@ -100,7 +101,7 @@ fn part_b_texts_of(bytes: &[u8]) -> Texts
 
 // The answer with a part and its texts.
 fn report_of(bytes: &[u8], part: MessagePart, texts: Texts) -> StaticData
-    ensures { λ r. ⌜ r ≡ reportOf (now (bytes .entry)) part texts ⌝ }
+    ensures { λ r. ⌜ r ≡ reportOf table (now (bytes .entry)) part texts ⌝ }
 {
     let report = StaticDataReport {
         message_type: parsers::field(bytes, 0, 6) as u8,

@@ -1,12 +1,11 @@
 -- The promise of the writer has one outcome, and its refusals are given exactly when they should be. Assumes nothing.
 use mathlib.Core.Logic.{_↔_}
 use mathlib.Core.Path.{_≡_, refl, sym, ap, _∙_}
-use mathlib.Core.Bool.{true}
-use mathlib.Core.List.{List, _∷_, _++_}
+use mathlib.Core.List.{List}
 use Prim.Native.Nat.{ℕ}
 use lib.ListN.{length}
-use Rattle.refusal.specs.Words.{Told, numberIn, Check}
-use Rattle.refusal.specs.Order.{Passed}
+use Rattle.refusal.specs.Words.{Told, refused}
+use Rattle.refusal.specs.Order.{First}
 use Rattle.refusal.proofs.Order.{exactly}
 use Rattle.refusal.proofs.Unique.{untold, untold-told}
 use Rattle.writer.specs.Message.{textAll}
@@ -27,8 +26,8 @@ pub unique : (q : Request) (d out : List ℕ) (r₁ r₂ : Written) (o₁ o₂ :
 unique q d out r₁ r₂ o₁ o₂ p w =
     (sym (unanswered-answered r₁) ∙ ap unanswered (p .answers ∙ sym (w .answers)) ∙ unanswered-answered r₂, p .leaves ∙ sym (w .leaves))
 
--- of the two checks, the one whose number is told is the first that fails
-pub refused-exactly : (q : Request) (d : List ℕ) (room : ℕ) (before : List Check) (c : Check) (after : List Check) → checksOf q d room ≡ before ++ c ∷ after
-    → (numberIn (answerOf q d room) ≡ c .number) ↔ (Passed before × (c .fails ≡ true))
+-- of the two checks, the one that is told is the first that fails
+pub refused-exactly : (q : Request) (d : List ℕ) (room : ℕ) (n : ℕ) (values : List ℕ)
+    → (answerOf q d room ≡ refused n values) ↔ First (checksOf q d room) n values
 unfolding answerOf
-refused-exactly q d room before c after e = exactly ℕ (length (textAll (messageOf q d))) (checksOf q d room) before c after e refl
+refused-exactly q d room n values = exactly (checksOf q d room) (length (textAll (messageOf q d))) n values

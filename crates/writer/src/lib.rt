@@ -142,7 +142,7 @@ fn put_line(out: &mut [u8], at: usize, request: Request, bits: &[u8], i: usize) 
 {
     let mut body = [0u8; 80];
     let n = put_body(&mut body, request, bits, i);
-    let sum = written_line::exclusive_or(&body[..n]);
+    let sum = scan::exclusive_or(&body[..n]);
     let a = text_out::put_byte(out, at, b'!');
     let b = text_out::put_bytes(out, a, &body[..n]);
     written_line::put_close(out, b, sum)

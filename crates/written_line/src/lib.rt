@@ -8,7 +8,7 @@ ghost use Prim.Native.Nat.{_/_, _%_, _<_};
 ghost use lib.Dec.{eqb};
 ghost use lib.ListN.{length, getD};
 ghost use Rattle.refusal.specs.Words.{pick};
-ghost use Rattle.scan.specs.Scan.{comma, star, xorOf, capital};
+ghost use Rattle.scan.specs.Scan.{comma, star, capital};
 ghost use Rattle.sentence.specs.Written.{talkerText, reportText, channelText};
 ghost use Rattle.text_out.specs.Text.{text, put};
 
@@ -47,19 +47,6 @@ pub fn put_channel(out: &mut [u8], at: usize, channel: Channel) -> usize
         return text_out::put_bytes(out, at, &s);
     }
     text_out::put_bytes(out, at, b",,")
-}
-
-// The exclusive or of some bytes.
-pub fn exclusive_or(s: &[u8]) -> u8
-    ensures { λ r. ⌜ r ≡ xorOf 0 (now (s .entry)) ⌝ }
-{
-    let mut sum: u8 = 0;
-    let mut i = 0;
-    while i < s.len() {
-        sum = sum ^ s[i];
-        i += 1;
-    }
-    sum
 }
 
 // What ends a line: the star, the checksum in two capital hex digits, CR LF.

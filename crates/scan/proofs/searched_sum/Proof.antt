@@ -12,17 +12,31 @@ returns c =
     let a = c .before .before .before .args in
     sum-none (a .line .now) (a .at) _ (c .before .take-until .ensures) (c .if1 .taken)
 
-sub-sweep : tie.Need-sub-sweep
-sub-sweep c = search needs
+sub-exclusive-or : tie.Need-sub-exclusive-or
+sub-exclusive-or c = search needs
 
-sweep-requires : tie.Need-sweep-requires
-sweep-requires c κs = search needs
+part-exclusive-or-start : tie.Need-part-exclusive-or-start
+part-exclusive-or-start c = search needs
+
+part-exclusive-or-end : tie.Need-part-exclusive-or-end
+part-exclusive-or-end c = search needs
+
+exclusive-or-requires : tie.Need-exclusive-or-requires
+exclusive-or-requires c κs = search needs
 
 returns-2 : tie.Need-returns-2
 returns-2 c =
-    let a = c .before .before .before .before .args in
-    sum-found (a .line .now) (a .at) _ (c .before .before .take-until .ensures) _ (c .before .if1 .left) (c .sweep .ensures .0)
+    let a = c .before .before .before .before .before .args in
+    sum-found (a .line .now) (a .at) _ (c .before .before .before .take-until .ensures) _ (c .before .before .if1 .left) (c .exclusive-or .ensures)
 
 pub searched-sum-spec : {M : Type 1} → statement M
 searched-sum-spec =
-    tie.close (tie.spec take-until-requires returns sub-sweep sweep-requires returns-2)
+    tie.close
+    (tie.spec
+    take-until-requires
+    returns
+    sub-exclusive-or
+    part-exclusive-or-start
+    part-exclusive-or-end
+    exclusive-or-requires
+    returns-2)
