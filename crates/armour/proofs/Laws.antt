@@ -16,7 +16,8 @@ use native.Mathlib.Omega.{arith}
 use borrow.Author.Tests.{lt-ltb, le-ltb, le-leb, lt-leb}
 use Rattle.refusal.specs.Words.{pick, within}
 use Rattle.refusal.proofs.Within.{in-range, below-range, above-range}
-use Rattle.armour.specs.Armour.{meaning, letter, firstBad, stream, size, unarmored}
+use Rattle.armour.specs.Armour.{meaning, trueType, letter, firstBad, stream, size, unarmored}
+use Rattle.armour.specs.declared.TrueType.{TrueType}
 use Rattle.parsers.specs.Bits.{val, bitAt, pack}
 use Rattle.parsers.proofs.Laws.{lt-or-le, length-pack, pack-set, bit-lt, cut-lt, val-digit, cut-gone, cut-whole, cut-last}
 
@@ -33,11 +34,18 @@ module _ (b : ℕ) where
   unfolding meaning
   meaning-none p q = rw (p, q)
 
+-- an empty payload has no true type
+pub no-type : (payload : List ℕ) → length payload ≡ 0 → TrueType.Absent ≡ trueType payload
+unfolding meaning within
+no-type [] e = refl
+no-type (b ∷ bs) e = absurd (omega arith)
+
 -- a byte is below the two ranges, in one, between them or beyond
 by-range : (P : Type 0) (b : ℕ) → (b < 48 → P) → (48 ≤ b → b ≤ 87 → P) → (88 ≤ b → b < 96 → P) → (96 ≤ b → b ≤ 119 → P) → (120 ≤ b → P) → P
 by-range P b below low between high beyond =
     ⊎-elim below
-    (λ l. ⊎-elim (λ m. low l (omega arith)) (λ m. ⊎-elim (between m) (λ k. ⊎-elim (λ j. high k (omega arith)) beyond (lt-or-le b 120)) (lt-or-le b 96)) (lt-or-le b 88))
+    (λ l. ⊎-elim (λ m. low l (omega arith)) (λ m. ⊎-elim (between m) (λ k. ⊎-elim (λ j. high k (omega arith)) beyond (lt-or-le b 120)) (lt-or-le b 96))
+    (lt-or-le b 88))
     (lt-or-le b 48)
 
 module _ (b : ℕ) where
@@ -53,11 +61,13 @@ module _ (b : ℕ) where
   -- armour is a byte of one of the two ranges, and every other means 64
   pub armour-in : (P : Type 0) → meaning b < 64 → (48 ≤ b → b ≤ 87 → P) → (96 ≤ b → b ≤ 119 → P) → P
   armour-in P h low high =
-      by-range P b (λ l. absurd (omega (arith, h, none-below l))) low (λ l m. absurd (omega (arith, h, none-between l m))) high (λ l. absurd (omega (arith, h, none-beyond l)))
+      by-range P b (λ l. absurd (omega (arith, h, none-below l))) low (λ l m. absurd (omega (arith, h, none-between l m))) high
+      (λ l. absurd (omega (arith, h, none-beyond l)))
 
   pub armour-none : 64 ≤ meaning b → 64 ≡ meaning b
   armour-none h =
-      by-range (64 ≡ meaning b) b none-below (λ l m. absurd (omega (arith, h, meaning-low b l m))) none-between (λ l m. absurd (omega (arith, h, meaning-high b l m))) none-beyond
+      by-range (64 ≡ meaning b) b none-below (λ l m. absurd (omega (arith, h, meaning-low b l m))) none-between
+      (λ l m. absurd (omega (arith, h, meaning-high b l m))) none-beyond
 
   pub armour-is : (within 48 87 b || within 96 119 b) ≡ ltb (meaning b) 64
   armour-is =
@@ -78,7 +88,8 @@ bad-beyond (b ∷ s) zero h = go (ltb (meaning b) 64)
     go false = refl
 bad-beyond (b ∷ s) (suc i) h = go (ltb (meaning b) 64) (bad-beyond s i (omega arith))
   where
-    go : (t : Bool) → (leb i (firstBad s) && ltb (meaning (getD s i 0)) 64) ≡ leb (suc i) (firstBad s) → (leb (suc i) (pick t (suc (firstBad s)) 0) && ltb (meaning (getD s i 0)) 64) ≡ leb (suc (suc i)) (pick t (suc (firstBad s)) 0)
+    go : (t : Bool) → (leb i (firstBad s) && ltb (meaning (getD s i 0)) 64) ≡ leb (suc i) (firstBad s)
+        → (leb (suc i) (pick t (suc (firstBad s)) 0) && ltb (meaning (getD s i 0)) 64) ≡ leb (suc (suc i)) (pick t (suc (firstBad s)) 0)
     go true more = rw (leb·suc-suc i (firstBad s), leb·suc-suc (suc i) (firstBad s)) more
     go false more = rw (lt-leb (suc i) 0 (omega arith), lt-leb (suc (suc i)) 0 (omega arith))
 
@@ -147,7 +158,8 @@ letter-meaning b h =
 
 -- three bytes more, stored where those that stand first end
 pub pack-three : (f : ℕ → ℕ) (k : ℕ) (d out : List ℕ) (x y z : ℕ) → (k + 1) * 3 ≤ length d → out ≡ pack 8 (k * 3) f ++ drop (k * 3) d
-    → x ≡ val f (k * 3 * 8) 8 → y ≡ val f ((k * 3 + 1) * 8) 8 → z ≡ val f ((k * 3 + 2) * 8) 8 → set (set (set out (k * 3) x) (k * 3 + 1) y) (k * 3 + 2) z ≡ pack 8 ((k + 1) * 3) f ++ drop ((k + 1) * 3) d
+    → x ≡ val f (k * 3 * 8) 8 → y ≡ val f ((k * 3 + 1) * 8) 8 → z ≡ val f ((k * 3 + 2) * 8) 8
+    → set (set (set out (k * 3) x) (k * 3 + 1) y) (k * 3 + 2) z ≡ pack 8 ((k + 1) * 3) f ++ drop ((k + 1) * 3) d
 pack-three f k d out x y z h e p q r =
     let two : k * 3 + 2 ≡ k * 3 + 1 + 1 = omega arith in
     let three : (k + 1) * 3 ≡ k * 3 + 1 + 1 + 1 = omega arith in

@@ -2,14 +2,19 @@
 use mathlib.Core.List.{List, [], _∷_, map}
 use Prim.Native.Nat.{ℕ, suc, _+_, _-_, _*_, _/_}
 use lib.Dec.{ltb}
-use lib.ListN.{length}
+use lib.ListN.{length, getD}
 use Rattle.refusal.specs.Words.{pick, within}
 use Rattle.parsers.specs.Bits.{bitAt, cut, pack}
+use Rattle.armour.specs.declared.TrueType.{TrueType}
 
 -- its table: `0` to `W` (48 to 87) are 0 to 39, and "`" to `w` (96 to 119) are 40 to 63; "the intermediate range "X" (88) to "_" (95) is not used".
 -- 64, which is no six bits, stands for every byte that the table has not
 unfoldable pub meaning : ℕ → ℕ
 meaning b = pick (within 48 87 b) (b - 48) (pick (within 96 119 b) (b - 56) 64)
+
+-- "The true type is the six-bit value of the first byte of the payload handed out, absent if that byte is not armour" (document 01, 'Line rules')
+abbrev pub trueType : List ℕ → TrueType
+trueType payload = let v = meaning (getD payload 0 0) in pick (ltb v 64) (TrueType.Of v) TrueType.Absent
 
 -- the way back: the character of a six-bit value
 abbrev pub letter : ℕ → ℕ

@@ -6,7 +6,7 @@ ghost use Prim.Native.Nat.{ℕ, _*_, _/_, _^_, _≤_, _<_};
 ghost use lib.Dec.{ltb, leb};
 ghost use lib.ListN.{length, drop, replicate};
 ghost use Rattle.parsers.specs.Bits.{val, pack};
-ghost use Rattle.armour.specs.Armour.{meaning, firstBad, stream};
+ghost use Rattle.armour.specs.Armour.{meaning, trueType, firstBad, stream};
 ghost use Rattle.armour.specs.Spread.{Spreads, Sixes};
 ghost use Rattle.armour.specs.Unarmor.{Unarmors};
 
@@ -14,6 +14,12 @@ ghost use Rattle.armour.specs.Unarmor.{Unarmors};
 pub enum Unarmored {
     Bytes(usize),
     Refused(Refusal),
+}
+
+// The type that a payload's first byte tells, absent where that byte is no armour.
+pub enum TrueType {
+    Absent,
+    Of(u8),
 }
 
 // Whether a byte is armour. Both ranges are tested, with no branch between them: which one a payload's next byte is of cannot be guessed.
@@ -39,6 +45,21 @@ pub fn six(b: u8) -> u8
         return 64;
     }
     value(b)
+}
+
+// The true type of a payload.
+pub fn true_type(payload: &[u8]) -> TrueType
+    ensures { λ r. ⌜ r ≡ trueType (now (payload .entry)) ⌝ }
+{
+    if payload.len() == 0 {
+        return TrueType::Absent;
+    }
+    let v = six(payload[0]);
+    if v < 64 {
+        TrueType::Of(v)
+    } else {
+        TrueType::Absent
+    }
 }
 
 // Whether every byte is armour. All are looked at, with no way out between them, so that many can be taken at once.

@@ -12,7 +12,7 @@ use Rattle.sentence.specs.declared.AisReportType.{AisReportType}
 use Rattle.sentence.specs.declared.Number.{Number}
 use Rattle.sentence.specs.declared.Channel.{Channel}
 use Rattle.answer.specs.Answer.{outcomeIn}
-use Rattle.answer.specs.declared.TrueType.{TrueType}
+use Rattle.armour.specs.declared.TrueType.{TrueType}
 use Rattle.answer.specs.declared.Outcome.{Outcome}
 use Rattle.answer.specs.declared.Sentence.{Sentence}
 use Rattle.sentence_numbers.specs.Sentence.{codeOf, valuesOf, talkerNumber, reportNumber, idIn, channelIn, typeIn, sentenceNumbers}

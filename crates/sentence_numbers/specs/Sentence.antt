@@ -8,7 +8,7 @@ use Rattle.sentence.specs.declared.AisReportType.{AisReportType}
 use Rattle.sentence.specs.declared.Number.{Number}
 use Rattle.sentence.specs.declared.Channel.{Channel}
 use Rattle.answer.specs.Answer.{Progress, complete, unfinished}
-use Rattle.answer.specs.declared.TrueType.{TrueType}
+use Rattle.armour.specs.declared.TrueType.{TrueType}
 use Rattle.answer.specs.declared.Sentence.{Sentence}
 use Rattle.numbers.specs.Optional.{absent, present}
 use Rattle.numbers.specs.declared.Optional.{Optional}

@@ -1,7 +1,7 @@
 // What a call answers as its code and values, and a sentence as 14 numbers.
 use answer::Outcome;
 use answer::Sentence;
-use answer::TrueType;
+use armour::TrueType;
 use armour::Unarmored;
 use numbers::Optional;
 use refusal::Refusal;

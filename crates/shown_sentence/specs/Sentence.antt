@@ -7,7 +7,7 @@ use Rattle.refusal.specs.Words.{pick}
 use Rattle.sentence.specs.declared.TalkerId.{TalkerId}
 use Rattle.sentence.specs.declared.AisReportType.{AisReportType}
 use Rattle.sentence.specs.declared.Channel.{Channel}
-use Rattle.answer.specs.declared.TrueType.{TrueType}
+use Rattle.armour.specs.declared.TrueType.{TrueType}
 use Rattle.answer.specs.declared.Sentence.{Sentence}
 use Rattle.text_out.specs.Text.{ascii}
 use Rattle.shown_values.specs.Values.{number, absent}

@@ -1,6 +1,6 @@
 // What is told of a line that was taken, as the comparing protocol shows it: each value behind a space.
 use answer::Sentence;
-use answer::TrueType;
+use armour::TrueType;
 use sentence::AisReportType;
 use sentence::Channel;
 use sentence::TalkerId;

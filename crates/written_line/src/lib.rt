@@ -4,12 +4,12 @@ use sentence::Channel;
 use sentence::TalkerId;
 ghost use mathlib.Core.Path.{_≡_};
 ghost use mathlib.Core.List.{[], _∷_, _++_};
-ghost use Prim.Native.Nat.{_/_, _%_, _<_};
+ghost use Prim.Native.Nat.{_<_};
 ghost use lib.Dec.{eqb};
 ghost use lib.ListN.{length, getD};
 ghost use Rattle.refusal.specs.Words.{pick};
-ghost use Rattle.scan.specs.Scan.{comma, star, capital};
-ghost use Rattle.sentence.specs.Written.{talkerText, reportText, channelText};
+ghost use Rattle.scan.specs.Scan.{comma, capital};
+ghost use Rattle.sentence.specs.Written.{talkerText, reportText, channelText, ending};
 ghost use Rattle.text_out.specs.Text.{text, put};
 
 // Whether a talker has no letters.
@@ -51,7 +51,7 @@ pub fn put_channel(out: &mut [u8], at: usize, channel: Channel) -> usize
 
 // What ends a line: the star, the checksum in two capital hex digits, CR LF.
 pub fn put_close(out: &mut [u8], at: usize, sum: u8) -> usize
-    ensures { λ r. ⌜ text r (now (out .exit)) ≡ put (text at (now (out .entry))) (star ∷ capital (sum / 16) ∷ capital (sum % 16) ∷ 13 ∷ 10 ∷ []) ⌝ }
+    ensures { λ r. ⌜ text r (now (out .exit)) ≡ put (text at (now (out .entry))) (ending sum) ⌝ }
 {
     let s = [b'*', hex_digit(sum / 16), hex_digit(sum % 16), 13, 10];
     text_out::put_bytes(out, at, &s)
