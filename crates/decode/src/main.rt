@@ -1,5 +1,5 @@
 // AIS lines from standard input, as a receiver or a log gives them, to a JSON object for each complete message and each refused line.
-use json_answer::Kept;
+use json::Kept;
 use stream::Input;
 use stream::Next;
 
@@ -15,8 +15,8 @@ struct Run {
 // What came is answered.
 fn answer_next(s: Kept, next: Next, line: &[u8], out: &mut [u8]) -> Kept {
     match next {
-        Next::Line(n) => json_answer::answer_line(s, n, line, out),
-        Next::TooLong => json_answer::answer_long(s, out),
+        Next::Line(n) => json::answer_line(s, n, line, out),
+        Next::TooLong => json::answer_long(s, out),
         Next::Nothing => s,
     }
 }

@@ -1,171 +1,99 @@
-// Members of a JSON object (RFC 8259), each behind a comma and in quotes: `,"name":` and a value.
+// What a line of the input is answered with, as a line of JSON: an object for a complete message or for a refused line, and nothing for an unfinished one.
+use answer::Answer;
+use reassembly::Record;
 ghost use mathlib.Core.Path.{_≡_};
 ghost use Rattle.text_out.specs.Text.{text, put};
-ghost use Rattle.json.specs.Json.{key, nullMember, numberMember, whereMember, unlessMember, signedMember, flagMember};
-ghost use Rattle.json.specs.Point.{tenthsMember, sixDigits, fixed, millionths, degreesMember};
-ghost use Rattle.json.specs.Strings.{codeOf, escaped, quoted, stringMember};
+ghost use Prim.Native.Nat.{_+_, _-_, _^_, min};
+ghost use lib.ListN.{take};
+ghost use Rattle.json.specs.Answer.{answerLine, longLine, leftWith, leftIn, leftLong, leftOf};
 
-// A member's name: `,"name":`.
-pub fn put_key(out: &mut [u8], at: usize, name: &[u8]) -> usize
-    ensures { λ r. ⌜ text r (now (out .exit)) ≡ put (text at (now (out .entry))) (key (now (name .entry))) ⌝ }
-{
-    let a = text_out::put_bytes(out, at, b",\"");
-    let b = text_out::put_bytes(out, a, name);
-    text_out::put_bytes(out, b, b"\":")
+// What is kept from line to line: the reassembly record, the number of lines so far, and how much of the output buffer is in use.
+pub struct Kept {
+    pub state: Record,
+    pub number: u64,
+    pub used: usize,
 }
 
-// A member that is absent.
-pub fn put_null(out: &mut [u8], at: usize, name: &[u8]) -> usize
-    ensures { λ r. ⌜ text r (now (out .exit)) ≡ put (text at (now (out .entry))) (nullMember (now (name .entry))) ⌝ }
+// A line of n bytes is read and answered.
+pub fn answer_line(s: Kept, n: usize, line: &[u8], out: &mut [u8]) -> Kept
+    ensures { λ r. ⌜ leftWith (r .state) (r .used) (now (out .exit))
+        ≡ leftOf (s .state) (r .number) (take n (now (line .entry))) (s .used) (now (out .entry)) ⌝ }
+    ensures { λ r. ⌜ r .number ≡ min (s .number + 1) (2 ^ 64 - 1) ⌝ }
 {
-    let a = put_key(out, at, name);
-    text_out::put_bytes(out, a, b"null")
-}
-
-// A number.
-pub fn put_number(out: &mut [u8], at: usize, name: &[u8], v: u64) -> usize
-    ensures { λ r. ⌜ text r (now (out .exit)) ≡ put (text at (now (out .entry))) (numberMember (now (name .entry)) v) ⌝ }
-{
-    let a = put_key(out, at, name);
-    text_out::put_decimal(out, a, v)
-}
-
-// A number where there is one.
-pub fn put_where(out: &mut [u8], at: usize, name: &[u8], there: bool, v: u64) -> usize
-    ensures { λ r. ⌜ text r (now (out .exit)) ≡ put (text at (now (out .entry))) (whereMember (now (name .entry)) there v) ⌝ }
-{
-    if there {
-        return put_number(out, at, name, v);
+    let k = text_out::up_to(n, line);
+    let number = following(s.number);
+    let told = tell(s.state, number, &line[..k], out, s.used);
+    let left = told.state;
+    Kept {
+        state: left,
+        number: number,
+        used: told.at,
     }
-    put_null(out, at, name)
 }
 
-// A number, where `none` is the one that stands for none.
-pub fn put_unless(out: &mut [u8], at: usize, name: &[u8], v: u64, none: u64) -> usize
-    ensures { λ r. ⌜ text r (now (out .exit)) ≡ put (text at (now (out .entry))) (unlessMember (now (name .entry)) v none) ⌝ }
+// A line that is too long is refused, and leaves the record as it was.
+pub fn answer_long(s: Kept, out: &mut [u8]) -> Kept
+    ensures { λ r. ⌜ leftWith (r .state) (r .used) (now (out .exit)) ≡ leftLong (s .state) (r .number) (s .used) (now (out .entry)) ⌝ }
+    ensures { λ r. ⌜ r .number ≡ min (s .number + 1) (2 ^ 64 - 1) ⌝ }
 {
-    put_where(out, at, name, v != none, v)
-}
-
-// A signed number.
-pub fn put_signed(out: &mut [u8], at: usize, name: &[u8], v: i32) -> usize
-    ensures { λ r. ⌜ text r (now (out .exit)) ≡ put (text at (now (out .entry))) (signedMember (now (name .entry)) v) ⌝ }
-{
-    let a = put_key(out, at, name);
-    text_out::put_signed(out, a, v)
-}
-
-// Whether something holds.
-pub fn put_flag(out: &mut [u8], at: usize, name: &[u8], flag: bool) -> usize
-    ensures { λ r. ⌜ text r (now (out .exit)) ≡ put (text at (now (out .entry))) (flagMember (now (name .entry)) flag) ⌝ }
-{
-    let a = put_key(out, at, name);
-    if flag {
-        return text_out::put_bytes(out, a, b"true");
+    let state = s.state;
+    let number = following(s.number);
+    Kept {
+        state: state,
+        number: number,
+        used: put_long(out, s.used, number),
     }
-    text_out::put_bytes(out, a, b"false")
 }
 
-// A count of tenths, exactly.
-pub fn put_tenths(out: &mut [u8], at: usize, name: &[u8], raw: u64) -> usize
-    ensures { λ r. ⌜ text r (now (out .exit)) ≡ put (text at (now (out .entry))) (tenthsMember (now (name .entry)) raw) ⌝ }
+// A refusal of the whole line: its number, code 1, and nothing else.
+fn put_long(out: &mut [u8], at: usize, number: u64) -> usize
+    ensures { λ r. ⌜ text r (now (out .exit)) ≡ put (text at (now (out .entry))) (longLine number) ⌝ }
 {
-    let a = put_key(out, at, name);
-    let b = text_out::put_decimal(out, a, raw / 10);
-    let c = text_out::put_byte(out, b, b'.');
-    text_out::put_decimal(out, c, raw % 10)
+    let mut numbers = [0u64; 53];
+    numbers[50] = number;
+    numbers[52] = 1;
+    face_json::put_line(out, at, &numbers, b"")
 }
 
-// A count of 1/600000 degrees, to the nearest millionth of a degree.
-pub fn put_degrees(out: &mut [u8], at: usize, name: &[u8], raw: i32) -> usize
-    ensures { λ r. ⌜ text r (now (out .exit)) ≡ put (text at (now (out .entry))) (degreesMember (now (name .entry)) raw) ⌝ }
+// The number of the next line; no input has so many lines that it would stay.
+fn following(number: u64) -> u64
+    ensures { λ r. ⌜ r ≡ min (number + 1) (2 ^ 64 - 1) ⌝ }
 {
-    let n = rounded(raw);
-    let a = put_key(out, at, name);
-    if raw < 0 {
-        let b = text_out::put_byte(out, a, b'-');
-        return put_fixed(out, b, n);
+    if number < u64::MAX {
+        number + 1
+    } else {
+        number
     }
-    put_fixed(out, a, n)
 }
 
-// The count of millionths of a degree, without a sign.
-fn rounded(raw: i32) -> u64
-    ensures { λ r. ⌜ r ≡ millionths raw ⌝ }
-{
-    (text_out::magnitude(raw) * 5 + 1) / 3
+// The record after a line, and the place behind what was put for it.
+struct Next {
+    pub state: Record,
+    pub at: usize,
 }
 
-// A count of millionths: a point, and six digits behind it.
-fn put_fixed(out: &mut [u8], at: usize, n: u64) -> usize
-    ensures { λ r. ⌜ text r (now (out .exit)) ≡ put (text at (now (out .entry))) (fixed n) ⌝ }
+// Reads a line, the one of this number in the input, and puts its answer.
+fn tell(state: Record, number: u64, line: &[u8], out: &mut [u8], at: usize) -> Next
+    ensures { λ r. ⌜ leftIn r (now (out .exit)) ≡ leftOf state number (now (line .entry)) at (now (out .entry)) ⌝ }
 {
-    let a = text_out::put_decimal(out, at, n / 1000000);
-    let b = text_out::put_byte(out, a, b'.');
-    put_six(out, b, n)
-}
-
-// The last six digits of a number.
-fn put_six(out: &mut [u8], at: usize, n: u64) -> usize
-    ensures { λ r. ⌜ text r (now (out .exit)) ≡ put (text at (now (out .entry))) (sixDigits n) ⌝ }
-{
-    let digits = [
-        b'0' + (n / 100000 % 10) as u8,
-        b'0' + (n / 10000 % 10) as u8,
-        b'0' + (n / 1000 % 10) as u8,
-        b'0' + (n / 100 % 10) as u8,
-        b'0' + (n / 10 % 10) as u8,
-        b'0' + (n % 10) as u8,
-    ];
-    text_out::put_bytes(out, at, &digits)
-}
-
-// A string, in quotes and escaped.
-pub fn put_string(out: &mut [u8], at: usize, name: &[u8], s: &[u8]) -> usize
-    ensures { λ r. ⌜ text r (now (out .exit)) ≡ put (text at (now (out .entry))) (stringMember (now (name .entry)) (now (s .entry))) ⌝ }
-{
-    let a = put_key(out, at, name);
-    let b = text_out::put_byte(out, a, b'"');
-    let c = put_escaped(out, b, s);
-    text_out::put_byte(out, c, b'"')
-}
-
-// The bytes of a string, each as it stands within quotes.
-fn put_escaped(out: &mut [u8], at: usize, s: &[u8]) -> usize
-    ensures { λ r. ⌜ text r (now (out .exit)) ≡ put (text at (now (out .entry))) (quoted (now (s .entry))) ⌝ }
-{
-    let mut p = at;
-    let mut i = 0;
-    while i < s.len() {
-        p = put_char(out, p, s[i]);
-        i += 1;
+    let mut payload = [0u8; 384];
+    let mut bits = [0u8; 288];
+    let s = reader::turn(state, line, true, &mut payload, &mut bits);
+    let behind = put_answer(out, at, number, s.answer, &bits);
+    let after = s.state;
+    Next {
+        state: after,
+        at: behind,
     }
-    p
 }
 
-// A byte of a string.
-fn put_char(out: &mut [u8], at: usize, b: u8) -> usize
-    ensures { λ r. ⌜ text r (now (out .exit)) ≡ put (text at (now (out .entry))) (escaped b) ⌝ }
+// The answer to a line, with the unarmored bytes of its message: laid out, and shown.
+fn put_answer(out: &mut [u8], at: usize, number: u64, answer: Answer, bits: &[u8]) -> usize
+    ensures { λ r. ⌜ text r (now (out .exit)) ≡ put (text at (now (out .entry))) (answerLine number answer (now (bits .entry))) ⌝ }
 {
-    if b == b'"' {
-        return text_out::put_bytes(out, at, b"\\\"");
-    }
-    if b == b'\\' {
-        return text_out::put_bytes(out, at, b"\\\\");
-    }
-    if b < 32 {
-        return put_code(out, at, b);
-    }
-    if b > 126 {
-        return put_code(out, at, b);
-    }
-    text_out::put_byte(out, at, b)
-}
-
-// A byte by its number.
-fn put_code(out: &mut [u8], at: usize, b: u8) -> usize
-    ensures { λ r. ⌜ text r (now (out .exit)) ≡ put (text at (now (out .entry))) (codeOf b) ⌝ }
-{
-    let a = text_out::put_bytes(out, at, b"\\u00");
-    text_out::put_hex(out, a, &[b])
+    let radio = parsers::field(bits, 149, 19);
+    let laid = layout::lay(answer, number, radio);
+    let numbers = laid.numbers;
+    let texts = laid.texts;
+    face_json::put_line(out, at, &numbers, &texts)
 }

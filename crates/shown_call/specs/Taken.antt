@@ -5,8 +5,11 @@ use mathlib.Core.List.{List, _∷_, _++_}
 use lib.ListN.{take, drop}
 use Rattle.ais.specs.Call.{Called}
 use Rattle.show.specs.Shown.{bytesShown, untouchedIn, keptShown}
-use Rattle.shown_message.specs.Message.{messageShown}
-use Rattle.shown_sentence.specs.Sentence.{sentenceShown}
+use Rattle.layout.specs.declared.Layout.{Layout}
+use Rattle.layout.specs.Layout.{layoutBy}
+use Rattle.face_rows.specs.Rows.{printed}
+use Rattle.face_words.specs.Tables.{sentenceTable}
+use Rattle.face_words.specs.Shown.{messageWords}
 
 -- "PAYLOAD and BITS the bytes that were handed out in the two buffers": the first n of a buffer
 abbrev pub handedShown : ℕ → List ℕ → List ℕ
@@ -16,9 +19,14 @@ handedShown n buffer = 32 ∷ bytesShown (take n buffer)
 abbrev pub bothKept : ℕ → List ℕ → ℕ → List ℕ → List ℕ
 bothKept n payload m bits = keptShown (untouchedIn (drop n payload) && untouchedIn (drop m bits))
 
--- "`read`, taken: `unfinished` or `complete`, then `TALKER .. SENT PAYLOAD BITS MESSAGE`", and KEPT, where m bytes were handed out in the bit buffer
+-- "`read`, taken: `unfinished` or `complete`, then `TALKER .. SENT PAYLOAD BITS MESSAGE`", and KEPT, from the answer's layout
+abbrev pub laidShown : List ℕ → List ℕ → List ℕ → List ℕ → ℕ → List ℕ → ℕ → List ℕ
+laidShown word numbers texts payload n bits m =
+    word ++ printed sentenceTable numbers texts ++ handedShown n payload ++ handedShown m bits ++ (32 ∷ messageWords numbers texts) ++ bothKept n payload m bits
+
+abbrev pub takenWith : Layout → List ℕ → ℕ → Called → List ℕ
+takenWith l word m c = laidShown word (l .numbers) (l .texts) (c .payload) (c .sentence .«payload_len») (c .bits) m
+
+-- where m bytes were handed out in the bit buffer
 abbrev pub takenShown : List ℕ → ℕ → Called → List ℕ
-takenShown word m c =
-    let n = c .sentence .«payload_len» in
-    word ++ sentenceShown (c .sentence) ++ handedShown n (c .payload) ++ handedShown m (c .bits) ++ (32 ∷ messageShown (c .message))
-    ++ bothKept n (c .payload) m (c .bits)
+takenShown word m c = takenWith (layoutBy (c .told) (c .sentence) (c .message) 0 0) word m c

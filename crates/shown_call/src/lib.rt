@@ -5,7 +5,7 @@ ghost use mathlib.Core.Path.{_≡_};
 ghost use Rattle.ais.specs.Call.{calledIn};
 ghost use Rattle.text_out.specs.Text.{text, put};
 ghost use Rattle.shown_call.specs.Called.{bitsOut, answerShown, calledShown};
-ghost use Rattle.shown_call.specs.Taken.{handedShown, bothKept, takenShown};
+ghost use Rattle.shown_call.specs.Taken.{handedShown, bothKept, laidShown, takenShown};
 
 // All that a call gave back. The two buffers are as they are after it.
 pub fn put_called(
@@ -16,7 +16,8 @@ pub fn put_called(
     payload: &[u8],
     bits: &[u8],
 ) -> usize
-    ensures { λ r. ⌜ text r (now (out .exit)) ≡ put (text at (now (out .entry))) (calledShown decode (calledIn stepped (now (payload .entry)) (now (bits .entry)))) ⌝ }
+    ensures { λ r. ⌜ text r (now (out .exit))
+        ≡ put (text at (now (out .entry))) (calledShown decode (calledIn stepped (now (payload .entry)) (now (bits .entry)))) ⌝ }
 {
     let a = put_answer(out, at, stepped, decode, payload, bits);
     shown_record::put_record(out, a, stepped.state)
@@ -31,7 +32,8 @@ fn put_answer(
     payload: &[u8],
     bits: &[u8],
 ) -> usize
-    ensures { λ r. ⌜ text r (now (out .exit)) ≡ put (text at (now (out .entry))) (answerShown decode (calledIn stepped (now (payload .entry)) (now (bits .entry)))) ⌝ }
+    ensures { λ r. ⌜ text r (now (out .exit))
+        ≡ put (text at (now (out .entry))) (answerShown decode (calledIn stepped (now (payload .entry)) (now (bits .entry)))) ⌝ }
 {
     let answer = stepped.answer;
     let outcome = answer.outcome;
@@ -69,15 +71,37 @@ fn put_taken(
     bits: &[u8],
     m: usize,
 ) -> usize
-    ensures { λ r. ⌜ text r (now (out .exit)) ≡ put (text at (now (out .entry))) (takenShown (now (word .entry)) m (calledIn stepped (now (payload .entry)) (now (bits .entry)))) ⌝ }
+    ensures { λ r. ⌜ text r (now (out .exit))
+        ≡ put (text at (now (out .entry))) (takenShown (now (word .entry)) m (calledIn stepped (now (payload .entry)) (now (bits .entry)))) ⌝ }
 {
     let n = stepped.answer.sentence.payload_len;
+    let laid = layout::lay(stepped.answer, 0, 0);
+    let numbers = laid.numbers;
+    let texts = laid.texts;
+    put_laid(out, at, word, &numbers, &texts, payload, n, bits, m)
+}
+
+// The same from the answer's layout, with the n and m bytes that were handed out in the buffers.
+fn put_laid(
+    out: &mut [u8],
+    at: usize,
+    word: &[u8],
+    numbers: &[u64],
+    texts: &[u8],
+    payload: &[u8],
+    n: usize,
+    bits: &[u8],
+    m: usize,
+) -> usize
+    ensures { λ r. ⌜ text r (now (out .exit))
+        ≡ put (text at (now (out .entry))) (laidShown (now (word .entry)) (now (numbers .entry)) (now (texts .entry)) (now (payload .entry)) n (now (bits .entry)) m) ⌝ }
+{
     let a = text_out::put_bytes(out, at, word);
-    let b = shown_sentence::put_sentence(out, a, stepped.answer.sentence);
+    let b = face_words::put_sentence(out, a, numbers, texts);
     let c = put_handed(out, b, payload, n);
     let d = put_handed(out, c, bits, m);
     let e = text_out::put_byte(out, d, b' ');
-    let f = shown_message::put_message(out, e, stepped.answer.message);
+    let f = face_words::put_message(out, e, numbers, texts);
     put_both_kept(out, f, payload, n, bits, m)
 }
 

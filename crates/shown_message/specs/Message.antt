@@ -1,28 +1,19 @@
--- MESSAGE, as the comparing protocol shows it, and what it says to decoding alone.
+-- What is said to decoding alone, as the comparing protocol shows it.
 use Prim.Native.Nat.{ℕ}
 use mathlib.Core.List.{List}
 use Rattle.refusal.specs.Words.{Told, taken, refused}
-use Rattle.static_data_report.specs.declared.Texts.{Texts}
-use Rattle.interrogation.specs.declared.Interrogation.{Interrogation}
 use Rattle.messages.specs.Messages.{decodedOf}
-use Rattle.messages.specs.declared.AisMessage.{AisMessage}
-use Rattle.messages.specs.declared.AisMessage.the-variants as content
 use Rattle.messages.specs.declared.Message.{Message}
-use Rattle.text_out.specs.Text.{ascii}
+use Rattle.layout.specs.declared.Layout.{Layout}
+use Rattle.layout.specs.Layout.{messageLayout}
 use Rattle.show.specs.Shown.{refusalShown}
-use Rattle.shown_position.specs.Position.{positionShown}
-use Rattle.shown_static.specs.StaticData.{staticShown}
-use Rattle.shown_message.specs.Asked.{interrogationShown}
+use Rattle.face_words.specs.Shown.{messageWords}
 
--- "MESSAGE is one of `none`, `position ..`", one of the three of type 24, "`interrogation ..`"
-abbrev pub contentShown : AisMessage → Texts → Interrogation → List ℕ
-contentShown content.Nothing texts asked = ascii "none"
-contentShown (content.PositionReport r) texts asked = positionShown r
-contentShown (content.StaticDataReport r) texts asked = staticShown r texts
-contentShown content.Interrogation texts asked = interrogationShown asked
+abbrev pub laidShown : Layout → List ℕ
+laidShown l = messageWords (l .numbers) (l .texts)
 
 abbrev pub messageShown : Message → List ℕ
-messageShown m = contentShown (m .content) (m .texts) (m .interrogation)
+messageShown m = laidShown (messageLayout m)
 
 -- "`decode`, taken: MESSAGE", else the refusal
 abbrev pub toldShown : Told (Unit {0}) → Message → List ℕ

@@ -7,12 +7,17 @@ use lib.Dec.{eqb}
 use Rattle.refusal.specs.Words.{pick}
 use Rattle.sentence.specs.declared.Number.{Number}
 use Rattle.reassembly.specs.declared.Record.{Record}
+use Rattle.text_out.specs.Text.{ascii}
+use Rattle.text_out.specs.Digits.{decimalOf}
 use Rattle.show.specs.Shown.{bytesShown}
-use Rattle.shown_values.specs.Values.{number, absent}
+
+-- "Words are separated by one space": a number behind its space (32)
+abbrev pub number : ℕ → List ℕ
+number v = 32 ∷ decimalOf v
 
 -- "ID is the message number or `-`"
 abbrev pub idShown : Number → List ℕ
-idShown Number.Absent = absent
+idShown Number.Absent = ascii " -"
 idShown (Number.Of n) = number n
 
 -- "with the zeros at the end left off"

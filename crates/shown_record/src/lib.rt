@@ -22,11 +22,11 @@ pub fn put_record(out: &mut [u8], at: usize, state: Record) -> usize
 }
 
 // A message number, or none.
-pub fn put_id(out: &mut [u8], at: usize, number: Number) -> usize
+fn put_id(out: &mut [u8], at: usize, number: Number) -> usize
     ensures { λ r. ⌜ text r (now (out .exit)) ≡ put (text at (now (out .entry))) (idShown number) ⌝ }
 {
     match number {
-        Number::Absent => shown_values::put_absent(out, at),
+        Number::Absent => text_out::put_bytes(out, at, b" -"),
         Number::Of(n) => show::put_value(out, at, n as u64),
     }
 }

@@ -2,4 +2,3 @@ pub mod Laws
 pub mod Strings
 pub mod Copied
 pub mod Decimals
-pub mod Signed

@@ -2,8 +2,6 @@
 use Prim.Native.Nat.{ℕ, zero, suc, _+_, _/_, _%_}
 use mathlib.Core.List.{List, [], _∷_, _++_}
 use lib.Dec.{ltb}
-use lib.Signed.{ltZ}
-use lib.IntN.{ℤ, pos, negsuc}
 use Rattle.refusal.specs.Words.{pick}
 
 -- the digit of a number below 16: `0` to `9` (48 on), then `a` to `f` (97 on)
@@ -27,12 +25,3 @@ decimalIn (suc k) n = pick (ltb 9 n) (decimalIn k (n / 10) ++ glyph (n % 10) ∷
 -- a number of 64 bits has at most 20
 abbrev pub decimalOf : ℕ → List ℕ
 decimalOf n = decimalIn 20 n
-
--- a number without its sign (`negsuc n` is -1 - n)
-abbrev pub sizeOf : ℤ → ℕ
-sizeOf (pos n) = n
-sizeOf (negsuc n) = n + 1
-
--- a signed number: a minus sign (45) before one below 0
-abbrev pub signedOf : ℤ → List ℕ
-signedOf z = pick (ltZ z (pos 0)) (45 ∷ decimalOf (sizeOf z)) (decimalOf (sizeOf z))

@@ -5,7 +5,7 @@ ghost use mathlib.Core.List.{[], _∷_};
 ghost use Prim.Native.Nat.{_<_, _≤_, min};
 ghost use lib.ListN.{length, take, drop};
 ghost use Rattle.text_out.specs.Text.{text, put};
-ghost use Rattle.text_out.specs.Digits.{glyph, decimalOf, hexOf, wordOf, sizeOf, signedOf};
+ghost use Rattle.text_out.specs.Digits.{glyph, decimalOf, hexOf, wordOf};
 
 // One byte.
 pub fn put_byte(out: &mut [u8], at: usize, b: u8) -> usize
@@ -81,35 +81,12 @@ pub fn put_decimal(out: &mut [u8], at: usize, n: u64) -> usize
     put_bytes(out, at, &digits[i..])
 }
 
-// A signed number in decimal, with a minus sign before one below 0.
-pub fn put_signed(out: &mut [u8], at: usize, v: i32) -> usize
-    ensures { λ r. ⌜ text r (now (out .exit)) ≡ put (text at (now (out .entry))) (signedOf v) ⌝ }
-{
-    let n = magnitude(v);
-    if v < 0 {
-        let p = put_byte(out, at, b'-');
-        return put_decimal(out, p, n);
-    }
-    put_decimal(out, at, n)
-}
-
 // The number n, or the length of s where that is less: a count of bytes of s, so that `&s[..up_to(n, s)]` asks its caller no proof.
 pub fn up_to(n: usize, s: &[u8]) -> usize
     ensures { λ r. ⌜ r ≡ min n (length (now (s .entry))) ⌝ }
     ensures { λ r. ⌜ (r ≤ length (now (s .entry))) × (r ≡ length (take r (now (s .entry)))) ⌝ }
 {
     if n < s.len() { n } else { s.len() }
-}
-
-// A signed number without its sign.
-pub fn magnitude(v: i32) -> u64
-    ensures { λ r. ⌜ r ≡ sizeOf v ⌝ }
-{
-    if v < 0 {
-        let m = -1 - v;
-        return m as u64 + 1;
-    }
-    v as u64
 }
 
 // Puts the decimal digits of n last in `digits`, and answers the place of the first of them.

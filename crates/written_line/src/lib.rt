@@ -58,7 +58,7 @@ pub fn put_close(out: &mut [u8], at: usize, sum: u8) -> usize
 }
 
 // A talker's letters; zeros for the unknown one, which has none.
-pub fn talker_letters(talker: TalkerId) -> [u8; 2]
+fn talker_letters(talker: TalkerId) -> [u8; 2]
     ensures { λ r. ⌜ talkerText talker ≡ pick (eqb (getD r 0 0) 0) [] r ⌝ }
 {
     match talker {
@@ -77,7 +77,7 @@ pub fn talker_letters(talker: TalkerId) -> [u8; 2]
 }
 
 // A report type's letters; zeros for the unknown one, which has none.
-pub fn report_letters(report: AisReportType) -> [u8; 3]
+fn report_letters(report: AisReportType) -> [u8; 3]
     ensures { λ r. ⌜ reportText report ≡ pick (eqb (getD r 0 0) 0) [] r ⌝ }
 {
     match report {

@@ -1,5 +1,5 @@
 -- `position_numbers::of_float` meets its contract. Assumes nothing.
-use Rattle.shown_values.proofs.Laws.{unlike-itself}
+use Rattle.position_numbers.proofs.Floats.{unlike-itself}
 use mathlib.Core.Path.{sym, _∙_}
 use borrow.Author.Needs.{needs}
 use Rattle.position_numbers.proofs.of_float.Statement.{statement}

@@ -1,6 +1,5 @@
 -- `position_numbers::of_signed` meets its contract. Assumes nothing.
-use Rattle.position_numbers.proofs.Words.{below-word, above-word}
-use Rattle.text_out.proofs.Signed.{turned-fits, turned-back, above-cast}
+use Rattle.position_numbers.proofs.Words.{turned-fits, turned-back, below-word, above-cast, above-word}
 use native.Mathlib.Omega.{arith}
 use Rattle.position_numbers.proofs.of_signed.Statement.{statement}
 use Rattle.position_numbers.proofs.of_signed.Tie as tie

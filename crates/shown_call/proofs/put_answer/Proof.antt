@@ -39,20 +39,44 @@ same-length : tie.Need-same-length
 same-length c = search needs
 
 returns : tie.Need-returns
-returns c = rw (c .before .before .before .before .before .before .enum-told .given .1, sym (c .before .before .before .before .before .bits-out .ensures)) (c .before .before .put-taken .ensures)
+returns c =
+    let bits-out = c .before .before .before .before .before in
+    let told = bits-out .before in
+    let e = told .enum-told .given .1 in
+    rw (e, sym (bits-out .bits-out .ensures)) (rw e at (c .before .before .put-taken .ensures))
 
 same-length-2 : tie.Need-same-length-2
 same-length-2 c = search needs
 
 returns-2 : tie.Need-returns-2
-returns-2 c = rw (c .before .before .before .before .before .enum-told2 .given .1) (c .before .before .put-taken2 .ensures)
+returns-2 c = let e = c .before .before .before .before .before .enum-told2 .given .1 in rw e (rw e at (c .before .before .put-taken2 .ensures))
 
 same-length-3 : tie.Need-same-length-3
 same-length-3 c = search needs
 
 returns-3 : tie.Need-returns-3
-returns-3 c = rw (c .before .before .before .before .before .before .before .before .before .outcome .given .1) (put-then _ _ _ (c .before .before .before .before .before .before .put-refusal .ensures) (c .before .before .put-both-kept .ensures))
+returns-3 c =
+    let refusal = c .before .before .before .before .before .before in
+    let outcome = refusal .before .before .before in
+    rw (outcome .outcome .given .1) (put-then _ _ _ (refusal .put-refusal .ensures) (c .before .before .put-both-kept .ensures))
 
 pub put-answer-spec : {M : Type 1} → statement M
 put-answer-spec =
-    tie.close (tie.spec enum-told bits-out-requires slice-aggregate-put-taken put-taken-requires enum-told-2 slice-aggregate-put-taken-2 put-taken-requires-2 enum-known-outcome put-refusal-requires put-both-kept-requires same-length returns same-length-2 returns-2 same-length-3 returns-3)
+    tie.close
+    (tie.spec
+    enum-told
+    bits-out-requires
+    slice-aggregate-put-taken
+    put-taken-requires
+    enum-told-2
+    slice-aggregate-put-taken-2
+    put-taken-requires-2
+    enum-known-outcome
+    put-refusal-requires
+    put-both-kept-requires
+    same-length
+    returns
+    same-length-2
+    returns-2
+    same-length-3
+    returns-3)

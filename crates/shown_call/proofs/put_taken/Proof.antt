@@ -1,38 +1,44 @@
 -- `shown_call::put_taken` meets its contract. Assumes nothing.
-use mathlib.Core.List.{[], _∷_}
-use Rattle.text_out.proofs.Laws.{put-then}
+use mathlib.Core.Path.{ap, _∙_}
+use Rattle.ais.specs.Call.{calledIn}
+use Rattle.layout.specs.declared.Layout.{Layout}
+use Rattle.text_out.specs.Text.{text, put}
+use Rattle.shown_call.specs.Taken.{takenWith}
 use borrow.Author.Needs.{needs}
 use Rattle.shown_call.proofs.put_taken.Statement.{statement}
 use Rattle.shown_call.proofs.put_taken.Tie as tie
 
-put-bytes-requires : tie.Need-put-bytes-requires
-put-bytes-requires c κs = search needs
+lay-requires : tie.Need-lay-requires
+lay-requires c κs = search needs
 
-put-sentence-requires : tie.Need-put-sentence-requires
-put-sentence-requires c κs = search needs
+slice-aggregate-put-laid : tie.Need-slice-aggregate-put-laid
+slice-aggregate-put-laid c = search needs
 
-put-handed-requires : tie.Need-put-handed-requires
-put-handed-requires c κs = search needs
+slice-aggregate-put-laid-2 : tie.Need-slice-aggregate-put-laid-2
+slice-aggregate-put-laid-2 c = search needs
 
-put-handed-requires-2 : tie.Need-put-handed-requires-2
-put-handed-requires-2 c κs = search needs
-
-put-byte-requires : tie.Need-put-byte-requires
-put-byte-requires c κs = search needs
-
-put-message-requires : tie.Need-put-message-requires
-put-message-requires c κs = search needs
-
-put-both-kept-requires : tie.Need-put-both-kept-requires
-put-both-kept-requires c κs = search needs
+put-laid-requires : tie.Need-put-laid-requires
+put-laid-requires c κs = search needs
 
 same-length : tie.Need-same-length
 same-length c = search needs
 
 returns : tie.Need-returns
 returns c =
-    put-then _ _ _ (put-then _ _ _ (put-then _ _ _ (put-then _ _ _ (put-then _ _ _ (c .before .before .before .before .before .before .before .before .before .before .before .before .before .before .before .before .before .before .before .before .before .before .before .before .before .before .put-bytes .ensures) (c .before .before .before .before .before .before .before .before .before .before .before .before .before .before .before .before .before .before .before .before .before .before .put-sentence .ensures)) (c .before .before .before .before .before .before .before .before .before .before .before .before .before .before .before .before .before .before .put-handed .ensures)) (c .before .before .before .before .before .before .before .before .before .before .before .before .before .before .put-handed2 .ensures)) (put-then _ (32 ∷ []) _ (c .before .before .before .before .before .before .before .before .before .before .put-byte .ensures) (c .before .before .before .before .before .before .put-message .ensures))) (c .before .before .put-both-kept .ensures)
+    let lay = c .before .before .before .before .before .before .before .before in
+    let start = lay .before .before .before .before .before in
+    let s = start .args in
+    c .before .before .put-laid .ensures
+    ∙ ap (λ (l : Layout). put (text (s .at) (s .out .now)) (takenWith l (s .word .now) (s .m) (calledIn (s .stepped) (s .payload .now) (s .bits .now))))
+    (lay .lay .ensures)
 
 pub put-taken-spec : {M : Type 1} → statement M
 put-taken-spec =
-    tie.close (tie.spec put-bytes-requires put-sentence-requires put-handed-requires put-handed-requires-2 put-byte-requires put-message-requires put-both-kept-requires same-length returns)
+    tie.close
+    (tie.spec
+    lay-requires
+    slice-aggregate-put-laid
+    slice-aggregate-put-laid-2
+    put-laid-requires
+    same-length
+    returns)

@@ -1,77 +1,41 @@
 -- `shown_message::put_message` meets its contract. Assumes nothing.
+use mathlib.Core.Path.{ap, _∙_}
+use Rattle.layout.specs.declared.Layout.{Layout}
+use Rattle.text_out.specs.Text.{text, put}
+use Rattle.shown_message.specs.Message.{laidShown}
 use borrow.Author.Needs.{needs}
 use Rattle.shown_message.proofs.put_message.Statement.{statement}
 use Rattle.shown_message.proofs.put_message.Tie as tie
 
-enum-told : tie.Need-enum-told
-enum-told c = search needs
+lay-message-requires : tie.Need-lay-message-requires
+lay-message-requires c κs = search needs
 
-slice-aggregate-put-bytes : tie.Need-slice-aggregate-put-bytes
-slice-aggregate-put-bytes c = search needs
+slice-aggregate-put-message : tie.Need-slice-aggregate-put-message
+slice-aggregate-put-message c = search needs
 
-put-bytes-requires : tie.Need-put-bytes-requires
-put-bytes-requires c κs = search needs
+slice-aggregate-put-message-2 : tie.Need-slice-aggregate-put-message-2
+slice-aggregate-put-message-2 c = search needs
 
-enum-known-content : tie.Need-enum-known-content
-enum-known-content c = search needs
-
-put-position-requires : tie.Need-put-position-requires
-put-position-requires c κs = search needs
-
-enum-known-content-2 : tie.Need-enum-known-content-2
-enum-known-content-2 c = search needs
-
-put-static-requires : tie.Need-put-static-requires
-put-static-requires c κs = search needs
-
-enum-told-2 : tie.Need-enum-told-2
-enum-told-2 c = search needs
-
-put-interrogation-requires : tie.Need-put-interrogation-requires
-put-interrogation-requires c κs = search needs
+put-message-requires : tie.Need-put-message-requires
+put-message-requires c κs = search needs
 
 same-length : tie.Need-same-length
 same-length c = search needs
 
 returns : tie.Need-returns
-returns c = rw (c .before .before .before .before .before .enum-told .given .1) (c .before .before .put-bytes .ensures)
-
-same-length-2 : tie.Need-same-length-2
-same-length-2 c = search needs
-
-returns-2 : tie.Need-returns-2
-returns-2 c = rw (c .before .before .before .before .before .content .given .1) (c .before .before .put-position .ensures)
-
-same-length-3 : tie.Need-same-length-3
-same-length-3 c = search needs
-
-returns-3 : tie.Need-returns-3
-returns-3 c = rw (c .before .before .before .before .before .content2 .given .1) (c .before .before .put-static .ensures)
-
-same-length-4 : tie.Need-same-length-4
-same-length-4 c = search needs
-
-returns-4 : tie.Need-returns-4
-returns-4 c = rw (c .before .before .before .before .enum-told2 .given .1) (c .before .before .put-interrogation .ensures)
+returns c =
+    let lay-message = c .before .before .before .before .before .before .before .before in
+    let start = lay-message .before .before in
+    let s = start .args in
+    c .before .before .put-message .ensures ∙ ap (λ (l : Layout). put (text (s .at) (s .out .now)) (laidShown l)) (lay-message .lay-message .ensures)
 
 pub put-message-spec : {M : Type 1} → statement M
 put-message-spec =
     tie.close
     (tie.spec
-    enum-told
-    slice-aggregate-put-bytes
-    put-bytes-requires
-    enum-known-content
-    put-position-requires
-    enum-known-content-2
-    put-static-requires
-    enum-told-2
-    put-interrogation-requires
+    lay-message-requires
+    slice-aggregate-put-message
+    slice-aggregate-put-message-2
+    put-message-requires
     same-length
-    returns
-    same-length-2
-    returns-2
-    same-length-3
-    returns-3
-    same-length-4
-    returns-4)
+    returns)

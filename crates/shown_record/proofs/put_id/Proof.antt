@@ -6,8 +6,11 @@ use Rattle.shown_record.proofs.put_id.Tie as tie
 enum-told : tie.Need-enum-told
 enum-told c = search needs
 
-put-absent-requires : tie.Need-put-absent-requires
-put-absent-requires c κs = search needs
+slice-aggregate-put-bytes : tie.Need-slice-aggregate-put-bytes
+slice-aggregate-put-bytes c = search needs
+
+put-bytes-requires : tie.Need-put-bytes-requires
+put-bytes-requires c κs = search needs
 
 enum-known-number : tie.Need-enum-known-number
 enum-known-number c = search needs
@@ -22,7 +25,7 @@ same-length : tie.Need-same-length
 same-length c = search needs
 
 returns : tie.Need-returns
-returns c = rw (c .before .before .before .before .enum-told .given .1) (c .before .before .put-absent .ensures)
+returns c = rw (c .before .before .before .before .before .enum-told .given .1) (c .before .before .put-bytes .ensures)
 
 same-length-2 : tie.Need-same-length-2
 same-length-2 c = search needs
@@ -35,7 +38,8 @@ put-id-spec =
     tie.close
     (tie.spec
     enum-told
-    put-absent-requires
+    slice-aggregate-put-bytes
+    put-bytes-requires
     enum-known-number
     cast-put-value
     put-value-requires

@@ -5,8 +5,7 @@ use Prim.Native.Nat.{ℕ}
 use Rattle.text_out.specs.Text.{text, put}
 use Rattle.text_out.proofs.Laws.{put-then}
 use Rattle.show.specs.Shown.{bytesShown}
-use Rattle.shown_values.specs.Values.{number}
-use Rattle.shown_record.specs.Record.{idShown}
+use Rattle.shown_record.specs.Record.{idShown, number}
 use borrow.Author.Needs.{needs}
 use Rattle.shown_record.proofs.put_record.Statement.{statement}
 use Rattle.shown_record.proofs.put_record.Tie as tie
@@ -46,10 +45,17 @@ same-length c = search needs
 
 returns : tie.Need-returns
 returns c =
-    let s = c .before .before .before .before .before .before .before .before .before .before .before .before .before .before .before .before .before .before .before .before .before .before .before .before .before .before .args in
+    let byte = c .before .before .before .before .before .before .before in
+    let len = byte .before .before .before .before in
+    let fragment = len .before .before .before .before in
+    let id = fragment .before .before .before .before .before in
+    let trimmed = id .before .before in
+    let s = trimmed .before .before .before .before .args in
     let r = s .state in
-    put-then _ _ _ (put-then _ _ _ (put-then _ _ _ (c .before .before .before .before .before .before .before .before .before .before .before .before .before .before .before .before .before .before .before .before .put-id .ensures) (c .before .before .before .before .before .before .before .before .before .before .before .before .before .before .before .put-value .ensures)) (c .before .before .before .before .before .before .before .before .before .before .before .put-value2 .ensures)) (put-then _ (32 ∷ []) _ (c .before .before .before .before .before .before .before .put-byte .ensures) (c .before .before .put-shown .ensures))
-    ∙ ap (λ (t : List ℕ). put (text (s .at) (s .out .now)) (idShown (r .number) ++ number (r .fragment) ++ number (r .len) ++ (32 ∷ bytesShown t))) (c .before .before .before .before .before .before .before .before .before .before .before .before .before .before .before .before .before .before .before .before .before .before .trim .ensures .0)
+    put-then _ _ _ (put-then _ _ _ (put-then _ _ _ (id .put-id .ensures) (fragment .put-value .ensures)) (len .put-value2 .ensures))
+    (put-then _ (32 ∷ []) _ (byte .put-byte .ensures) (c .before .before .put-shown .ensures))
+    ∙ ap (λ (t : List ℕ). put (text (s .at) (s .out .now)) (idShown (r .number) ++ number (r .fragment) ++ number (r .len) ++ (32 ∷ bytesShown t)))
+    (trimmed .trim .ensures .0)
 
 pub put-record-spec : {M : Type 1} → statement M
 put-record-spec =

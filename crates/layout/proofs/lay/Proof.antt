@@ -1,0 +1,45 @@
+-- `layout::lay` meets its contract. Assumes nothing.
+use Rattle.layout.proofs.Laid.{whole}
+use borrow.Author.Needs.{needs}
+use Rattle.layout.proofs.lay.Statement.{statement}
+use Rattle.layout.proofs.lay.Tie as tie
+
+slice-aggregate-tell : tie.Need-slice-aggregate-tell
+slice-aggregate-tell c = search needs
+
+slice-aggregate-tell-2 : tie.Need-slice-aggregate-tell-2
+slice-aggregate-tell-2 c = search needs
+
+tell-requires : tie.Need-tell-requires
+tell-requires c κs = search needs
+
+cast-t12 : tie.Need-cast-t12
+cast-t12 c = search needs
+
+slice-aggregate-put-numbers : tie.Need-slice-aggregate-put-numbers
+slice-aggregate-put-numbers c = search needs
+
+slice-aggregate-put-numbers-2 : tie.Need-slice-aggregate-put-numbers-2
+slice-aggregate-put-numbers-2 c = search needs
+
+put-numbers-requires : tie.Need-put-numbers-requires
+put-numbers-requires c κs = search needs
+
+returns : tie.Need-returns
+returns c =
+    let told = c .before .before .before .before .before .before in
+    let s = told .before .before .before .args in
+    whole (s .a) (s .line) (s .radio) (told .tell .ensures .0) (told .tell .ensures .1) (c .before .put-numbers .ensures)
+
+pub lay-spec : {M : Type 1} → statement M
+lay-spec =
+    tie.close
+    (tie.spec
+    slice-aggregate-tell
+    slice-aggregate-tell-2
+    tell-requires
+    cast-t12
+    slice-aggregate-put-numbers
+    slice-aggregate-put-numbers-2
+    put-numbers-requires
+    returns)
