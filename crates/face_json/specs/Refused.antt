@@ -1,18 +1,15 @@
 -- A refused line as a JSON object: its number, document 01's number and values, and a reason in words.
 use mathlib.Core.List.{List, _++_}
-use Rattle.face_rows.specs.Rows.{is, number, Row}
-use Rattle.face_rows.specs.Places.{firstValue, secondValue, line, code}
+use Rattle.face_rows.specs.Rows.{is, least, number, Row}
+use Rattle.face_rows.specs.Places.{firstValue, secondValue, line, code, valueCount}
 use Rattle.face_json.specs.Members.{words, wordsIf, valueIf, member}
 
--- "An array structure is represented as square brackets surrounding zero or more values" (RFC 8259): refusal 3 returns two, 8, 10 and 11 one
+-- "An array structure is represented as square brackets surrounding zero or more values" (RFC 8259): a refusal returns at most two
 abbrev pub valuesTable : List Row
 valuesTable =
     words ",\"values\":["
-    ++ valueIf (is code 3) "" (number firstValue)
-    ++ valueIf (is code 3) "," (number secondValue)
-    ++ valueIf (is code 8) "" (number firstValue)
-    ++ valueIf (is code 10) "" (number firstValue)
-    ++ valueIf (is code 11) "" (number firstValue)
+    ++ valueIf (least valueCount 1) "" (number firstValue)
+    ++ valueIf (least valueCount 2) "," (number secondValue)
     ++ words "]"
 
 -- document 01's table of refusals, column 'When'

@@ -7,7 +7,7 @@ use Rattle.face_rows.specs.Places.{latitudeThere, latitudeRaw, courseThere, cou
 use Rattle.face_rows.specs.Places.{part, shipType, model, serial, toBow, toStern, toPort, toStarboard, nameLength, vendorLength, modelTextLength}
 use Rattle.face_rows.specs.Places.{callsignLength, stations, firstMmsi, firstMessages, firstType1, firstOffsetThere1, firstOffset1, firstType2}
 use Rattle.face_rows.specs.Places.{firstOffsetThere2, firstOffset2, secondMmsi, secondMessages, secondType1, secondOffsetThere1, secondOffset1, secondType2}
-use Rattle.face_rows.specs.Places.{secondOffsetThere2, secondOffset2}
+use Rattle.face_rows.specs.Places.{secondOffsetThere2, secondOffset2, nameStart, vendorStart, modelTextStart, callsignStart}
 use Rattle.face_json.specs.Members.{words, member, memberIf, orNull, unlessNull, leastOrNull, flag}
 
 -- an object of gpsd's class, with the number of the line in the input
@@ -48,11 +48,11 @@ positionTable =
 abbrev pub craftTable : List Row
 craftTable =
     member "shiptype" (number shipType)
-    ++ member "vendorid" (quoted vendorLength 20)
+    ++ member "vendorid" (quoted vendorLength vendorStart)
     ++ member "model" (number model)
     ++ member "serial" (number serial)
-    ++ member "model_serial" (quoted modelTextLength 40)
-    ++ member "callsign" (quoted callsignLength 60)
+    ++ member "model_serial" (quoted modelTextLength modelTextStart)
+    ++ member "callsign" (quoted callsignLength callsignStart)
     ++ member "to_bow" (number toBow)
     ++ member "to_stern" (number toStern)
     ++ member "to_port" (number toPort)
@@ -63,7 +63,7 @@ abbrev pub staticTable : List Row
 staticTable =
     headTable
     ++ member "partno" (number part)
-    ++ memberIf (is part 0) "shipname" (quoted nameLength 0)
+    ++ memberIf (is part 0) "shipname" (quoted nameLength nameStart)
     ++ group (is part 1) craftTable
     ++ words "}\n"
 

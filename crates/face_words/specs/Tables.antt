@@ -8,7 +8,8 @@ use Rattle.face_rows.specs.Places.{course, courseRaw, headingThere, heading, se
 use Rattle.face_rows.specs.Places.{increment, slots, keep, part, shipType, model, serial, toBow, toStern, toPort, toStarboard, nameLength, vendorLength}
 use Rattle.face_rows.specs.Places.{modelTextLength, callsignLength, stations, firstMmsi, firstMessages, firstType1, firstOffsetThere1, firstOffset1}
 use Rattle.face_rows.specs.Places.{firstType2, firstOffsetThere2, firstOffset2, secondMmsi, secondMessages, secondType1, secondOffsetThere1}
-use Rattle.face_rows.specs.Places.{secondOffset1, secondType2, secondOffsetThere2, secondOffset2, code}
+use Rattle.face_rows.specs.Places.{secondOffset1, secondType2, secondOffsetThere2, secondOffset2, code, valueCount}
+use Rattle.face_rows.specs.Places.{nameStart, vendorStart, modelTextStart, callsignStart}
 use Rattle.face_words.specs.Words.{words, wordsIf, value, valueIf, spaced, orDash, unlessDash}
 
 -- "TALKER REPORT TOTAL NUMBER ID CHANNEL FILL CRATETYPE TRUETYPE SENT": "TALKER `AB` .. `SA`, or `Unknown`"; "REPORT `VDM`, `VDO` or `Unknown`"
@@ -41,11 +42,8 @@ sentenceTable =
 abbrev pub refusalTable : List Row
 refusalTable =
     value "refused " (number code)
-    ++ valueIf (is code 3) " " (number firstValue)
-    ++ valueIf (is code 3) " " (number secondValue)
-    ++ valueIf (is code 8) " " (number firstValue)
-    ++ valueIf (is code 10) " " (number firstValue)
-    ++ valueIf (is code 11) " " (number firstValue)
+    ++ valueIf (least valueCount 1) " " (number firstValue)
+    ++ valueIf (least valueCount 2) " " (number secondValue)
 
 -- "`sotdma SYNC TIMEOUT offset N`, `sotdma SYNC TIMEOUT utc HOUR MINUTE`, `sotdma SYNC TIMEOUT slot N`, `sotdma SYNC TIMEOUT stations N`"
 abbrev pub sotdmaTable : List Row
@@ -95,11 +93,11 @@ positionTable =
 abbrev pub craftTable : List Row
 craftTable =
     spaced (number shipType)
-    ++ spaced (hexed vendorLength 20)
-    ++ spaced (hexed modelTextLength 40)
+    ++ spaced (hexed vendorLength vendorStart)
+    ++ spaced (hexed modelTextLength modelTextStart)
     ++ spaced (number model)
     ++ spaced (number serial)
-    ++ spaced (hexed callsignLength 60)
+    ++ spaced (hexed callsignLength callsignStart)
     ++ spaced (number toBow)
     ++ spaced (number toStern)
     ++ spaced (number toPort)
@@ -113,7 +111,7 @@ staticTable =
     ++ wordsIf (least part 2) "part"
     ++ spaced (number repeat)
     ++ spaced (number mmsi)
-    ++ valueIf (is part 0) " " (hexed nameLength 0)
+    ++ valueIf (is part 0) " " (hexed nameLength nameStart)
     ++ group (is part 1) craftTable
     ++ valueIf (least part 2) " " (number part)
 

@@ -29,7 +29,7 @@ answerLine number answer bits = lineFor number (outcomeIn (answer .outcome)) (an
 
 -- a line that is too long to be held: its number, code 1, and nothing else
 abbrev pub longLine : ℕ → List ℕ
-longLine number = jsonLine (replicate 50 0 ++ number ∷ 0 ∷ 1 ∷ []) []
+longLine number = jsonLine (replicate 50 0 ++ number ∷ 0 ∷ 1 ∷ 0 ∷ []) []
 
 -- the record and the text after a line
 pub record Left : Type 0 where

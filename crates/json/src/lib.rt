@@ -49,7 +49,7 @@ pub fn answer_long(s: Kept, out: &mut [u8]) -> Kept
 fn put_long(out: &mut [u8], at: usize, number: u64) -> usize
     ensures { λ r. ⌜ text r (now (out .exit)) ≡ put (text at (now (out .entry))) (longLine number) ⌝ }
 {
-    let mut numbers = [0u64; 53];
+    let mut numbers = [0u64; 54];
     numbers[50] = number;
     numbers[52] = 1;
     face_json::put_line(out, at, &numbers, b"")

@@ -1,3 +1,4 @@
 pub mod Words
 pub mod Refusal
+pub mod Values
 pub mod Order

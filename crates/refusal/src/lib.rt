@@ -1,6 +1,8 @@
 // Why a call is refused (errors.rs): the thirteen refusals of document 01, one enum for every layer.
 ghost use mathlib.Core.Path.{_≡_};
+ghost use mathlib.Core.List.{[], _∷_};
 ghost use Rattle.refusal.specs.Refusal.{rowOf};
+ghost use Rattle.refusal.specs.Values.{Held};
 
 // In document 01's order, from 1 to 13, with what is also returned.
 pub enum Refusal {
@@ -40,5 +42,59 @@ pub fn number(refusal: Refusal) -> u8
         Refusal::UnknownType { kind: _ } => 11,
         Refusal::Room => 12,
         Refusal::Request => 13,
+    }
+}
+
+// What a refusal also returns: how many values there are, the first and the second, each 0 where there is none.
+pub struct Values {
+    pub count: u64,
+    pub first: u64,
+    pub second: u64,
+}
+
+// The values of a refusal, for programs that print them.
+pub fn values_of(refusal: Refusal) -> Values
+    ensures { λ r. ⌜ Held (rowOf refusal .values) r ⌝ }
+{
+    match refusal {
+        Refusal::LineTooLong => none(),
+        Refusal::Line => none(),
+        Refusal::Checksum { expected, found } => Values {
+            count: 2,
+            first: expected as u64,
+            second: found as u64,
+        },
+        Refusal::MessageNumber => none(),
+        Refusal::FragmentNumber => none(),
+        Refusal::PayloadTooLong => none(),
+        Refusal::Fill => none(),
+        Refusal::Armour { offset } => one(offset as u64),
+        Refusal::Short => none(),
+        Refusal::OtherType { kind } => one(kind as u64),
+        Refusal::UnknownType { kind } => one(kind as u64),
+        Refusal::Room => none(),
+        Refusal::Request => none(),
+    }
+}
+
+// No value.
+fn none() -> Values
+    ensures { λ r. ⌜ Held [] r ⌝ }
+{
+    Values {
+        count: 0,
+        first: 0,
+        second: 0,
+    }
+}
+
+// A single value.
+fn one(v: u64) -> Values
+    ensures { λ r. ⌜ Held (v ∷ []) r ⌝ }
+{
+    Values {
+        count: 1,
+        first: v,
+        second: 0,
     }
 }

@@ -1,7 +1,7 @@
 -- What a call answers, and the first sixteen numbers of an answer: a refusal's two values, and the sentence. What does not apply is 0.
 use Prim.Native.Nat.{ℕ}
 use mathlib.Core.List.{List, [], _∷_}
-use lib.ListN.{getD}
+use lib.ListN.{length, getD}
 use Rattle.refusal.specs.Words.{Told, taken, refused}
 use Rattle.sentence.specs.declared.TalkerId.{TalkerId}
 use Rattle.sentence.specs.declared.AisReportType.{AisReportType}
@@ -23,6 +23,11 @@ codeOf (refused n values) = n
 abbrev pub valuesOf : Told Progress → List ℕ
 valuesOf (taken p) = 0 ∷ 0 ∷ []
 valuesOf (refused n values) = getD values 0 0 ∷ getD values 1 0 ∷ []
+
+-- how many it returns
+abbrev pub valueCount : Told Progress → ℕ
+valueCount (taken p) = 0
+valueCount (refused n values) = length values
 
 -- of unarmoring alone: how many bytes stand first in the output, or the value that a refusal also returns
 abbrev pub countOf : Told ℕ → ℕ

@@ -13,7 +13,8 @@ ghost use mathlib.Core.Path.{_≡_};
 ghost use Rattle.refusal.specs.Words.{numberIn};
 ghost use Rattle.armour.specs.Unarmor.{answered};
 ghost use Rattle.answer.specs.Answer.{outcomeIn};
-ghost use Rattle.sentence_numbers.specs.Sentence.{codeOf, valuesOf, countOf, talkerNumber, reportNumber, idIn, channelIn, typeIn, sentenceNumbers};
+ghost use Rattle.sentence_numbers.specs.Sentence.{codeOf, valuesOf, valueCount, countOf};
+ghost use Rattle.sentence_numbers.specs.Sentence.{talkerNumber, reportNumber, idIn, channelIn, typeIn, sentenceNumbers};
 
 // The code of an outcome.
 pub fn code(outcome: Outcome) -> u32
@@ -30,21 +31,8 @@ pub fn code(outcome: Outcome) -> u32
 fn of_refusal(refusal: Refusal) -> [u64; 2]
     ensures { λ r. ⌜ r ≡ valuesOf (outcomeIn (Outcome.Refused refusal)) ⌝ }
 {
-    match refusal {
-        Refusal::LineTooLong => [0, 0],
-        Refusal::Line => [0, 0],
-        Refusal::Checksum { expected, found } => [expected as u64, found as u64],
-        Refusal::MessageNumber => [0, 0],
-        Refusal::FragmentNumber => [0, 0],
-        Refusal::PayloadTooLong => [0, 0],
-        Refusal::Fill => [0, 0],
-        Refusal::Armour { offset } => [offset as u64, 0],
-        Refusal::Short => [0, 0],
-        Refusal::OtherType { kind } => [kind as u64, 0],
-        Refusal::UnknownType { kind } => [kind as u64, 0],
-        Refusal::Room => [0, 0],
-        Refusal::Request => [0, 0],
-    }
+    let v = refusal::values_of(refusal);
+    [v.first, v.second]
 }
 
 // An outcome's values.
@@ -55,6 +43,20 @@ pub fn values(outcome: Outcome) -> [u64; 2]
         Outcome::Complete => [0, 0],
         Outcome::Unfinished => [0, 0],
         Outcome::Refused(refusal) => of_refusal(refusal),
+    }
+}
+
+// How many values it has.
+pub fn value_count(outcome: Outcome) -> u64
+    ensures { λ r. ⌜ r ≡ valueCount (outcomeIn outcome) ⌝ }
+{
+    match outcome {
+        Outcome::Complete => 0,
+        Outcome::Unfinished => 0,
+        Outcome::Refused(refusal) => {
+            let v = refusal::values_of(refusal);
+            v.count
+        }
     }
 }
 

@@ -4,7 +4,8 @@ use mathlib.Core.Bool.{_&&_}
 use mathlib.Core.List.{List, _∷_, _++_}
 use lib.ListN.{take, drop}
 use Rattle.ais.specs.Call.{Called}
-use Rattle.show.specs.Shown.{bytesShown, untouchedIn, keptShown}
+use Rattle.face_values.specs.Quoted.{shownIn}
+use Rattle.show.specs.Shown.{untouchedIn, keptShown}
 use Rattle.layout.specs.declared.Layout.{Layout}
 use Rattle.layout.specs.Layout.{layoutBy}
 use Rattle.face_rows.specs.Rows.{printed}
@@ -13,7 +14,7 @@ use Rattle.face_words.specs.Shown.{messageWords}
 
 -- "PAYLOAD and BITS the bytes that were handed out in the two buffers": the first n of a buffer
 abbrev pub handedShown : ℕ → List ℕ → List ℕ
-handedShown n buffer = 32 ∷ bytesShown (take n buffer)
+handedShown n buffer = 32 ∷ shownIn (take n buffer)
 
 -- "KEPT is `kept` where every lent byte beyond what was handed out is still 170": beyond n bytes of the one buffer and m of the other
 abbrev pub bothKept : ℕ → List ℕ → ℕ → List ℕ → List ℕ

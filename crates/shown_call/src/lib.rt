@@ -94,7 +94,8 @@ fn put_laid(
     m: usize,
 ) -> usize
     ensures { λ r. ⌜ text r (now (out .exit))
-        ≡ put (text at (now (out .entry))) (laidShown (now (word .entry)) (now (numbers .entry)) (now (texts .entry)) (now (payload .entry)) n (now (bits .entry)) m) ⌝ }
+        ≡ put (text at (now (out .entry)))
+        (laidShown (now (word .entry)) (now (numbers .entry)) (now (texts .entry)) (now (payload .entry)) n (now (bits .entry)) m) ⌝ }
 {
     let a = text_out::put_bytes(out, at, word);
     let b = face_words::put_sentence(out, a, numbers, texts);
@@ -111,7 +112,7 @@ fn put_handed(out: &mut [u8], at: usize, buffer: &[u8], n: usize) -> usize
 {
     let k = text_out::up_to(n, buffer);
     let a = text_out::put_byte(out, at, b' ');
-    show::put_shown(out, a, &buffer[..k])
+    face_values::put_shown(out, a, &buffer[..k])
 }
 
 // KEPT, of the bytes beyond n of the one buffer and beyond m of the other.

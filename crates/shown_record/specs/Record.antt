@@ -9,7 +9,7 @@ use Rattle.sentence.specs.declared.Number.{Number}
 use Rattle.reassembly.specs.declared.Record.{Record}
 use Rattle.text_out.specs.Text.{ascii}
 use Rattle.text_out.specs.Digits.{decimalOf}
-use Rattle.show.specs.Shown.{bytesShown}
+use Rattle.face_values.specs.Quoted.{shownIn}
 
 -- "Words are separated by one space": a number behind its space (32)
 abbrev pub number : ℕ → List ℕ
@@ -27,4 +27,4 @@ trimmed (x ∷ s) = pick (eqb (length (trimmed s)) 0 && eqb x 0) [] (x ∷ trimm
 
 -- "then the record, its 384 bytes with the zeros at the end left off"
 abbrev pub recordShown : Record → List ℕ
-recordShown r = idShown (r .number) ++ number (r .fragment) ++ number (r .len) ++ (32 ∷ bytesShown (trimmed (r .bytes)))
+recordShown r = idShown (r .number) ++ number (r .fragment) ++ number (r .len) ++ (32 ∷ shownIn (trimmed (r .bytes)))

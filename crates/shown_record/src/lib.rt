@@ -5,7 +5,7 @@ ghost use mathlib.Core.Path.{_≡_};
 ghost use Prim.Native.Nat.{_≤_};
 ghost use lib.ListN.{length, take};
 ghost use Rattle.text_out.specs.Text.{text, put};
-ghost use Rattle.shown_record.specs.Record.{idShown, trimmed, recordShown};
+ghost use Rattle.shown_record.specs.Record.{number, idShown, trimmed, recordShown};
 
 // A record: ID FRAGMENT LENGTH BYTES.
 pub fn put_record(out: &mut [u8], at: usize, state: Record) -> usize
@@ -15,10 +15,10 @@ pub fn put_record(out: &mut [u8], at: usize, state: Record) -> usize
     let bytes = state.bytes;
     let n = trim(&bytes);
     let a = put_id(out, at, number);
-    let b = show::put_value(out, a, state.fragment as u64);
-    let c = show::put_value(out, b, state.len as u64);
+    let b = put_number(out, a, state.fragment as u64);
+    let c = put_number(out, b, state.len as u64);
     let d = text_out::put_byte(out, c, b' ');
-    show::put_shown(out, d, &bytes[..n])
+    face_values::put_shown(out, d, &bytes[..n])
 }
 
 // A message number, or none.
@@ -27,8 +27,16 @@ fn put_id(out: &mut [u8], at: usize, number: Number) -> usize
 {
     match number {
         Number::Absent => text_out::put_bytes(out, at, b" -"),
-        Number::Of(n) => show::put_value(out, at, n as u64),
+        Number::Of(n) => put_number(out, at, n as u64),
     }
+}
+
+// A number behind a space.
+fn put_number(out: &mut [u8], at: usize, v: u64) -> usize
+    ensures { λ r. ⌜ text r (now (out .exit)) ≡ put (text at (now (out .entry))) (number v) ⌝ }
+{
+    let a = text_out::put_byte(out, at, b' ');
+    text_out::put_decimal(out, a, v)
 }
 
 // How many bytes are left without the zeros at the end.

@@ -4,6 +4,9 @@ use borrow.Author.Needs.{needs}
 use Rattle.layout.proofs.lay.Statement.{statement}
 use Rattle.layout.proofs.lay.Tie as tie
 
+value-count-requires : tie.Need-value-count-requires
+value-count-requires c κs = search needs
+
 slice-aggregate-tell : tie.Need-slice-aggregate-tell
 slice-aggregate-tell c = search needs
 
@@ -13,8 +16,8 @@ slice-aggregate-tell-2 c = search needs
 tell-requires : tie.Need-tell-requires
 tell-requires c κs = search needs
 
-cast-t12 : tie.Need-cast-t12
-cast-t12 c = search needs
+cast-t14 : tie.Need-cast-t14
+cast-t14 c = search needs
 
 slice-aggregate-put-numbers : tie.Need-slice-aggregate-put-numbers
 slice-aggregate-put-numbers c = search needs
@@ -28,17 +31,19 @@ put-numbers-requires c κs = search needs
 returns : tie.Need-returns
 returns c =
     let told = c .before .before .before .before .before .before in
-    let s = told .before .before .before .args in
-    whole (s .a) (s .line) (s .radio) (told .tell .ensures .0) (told .tell .ensures .1) (c .before .put-numbers .ensures)
+    let counted = told .before .before .before in
+    let s = counted .before .args in
+    whole (s .a) (s .line) (s .radio) (told .tell .ensures .0) (told .tell .ensures .1) (counted .value-count .ensures) (c .before .put-numbers .ensures)
 
 pub lay-spec : {M : Type 1} → statement M
 lay-spec =
     tie.close
     (tie.spec
+    value-count-requires
     slice-aggregate-tell
     slice-aggregate-tell-2
     tell-requires
-    cast-t12
+    cast-t14
     slice-aggregate-put-numbers
     slice-aggregate-put-numbers-2
     put-numbers-requires

@@ -6,7 +6,8 @@ use mathlib.Core.List.{List, _++_}
 use lib.ListN.{take}
 use Rattle.text_out.specs.Text.{text, put}
 use Rattle.text_out.proofs.Laws.{put-then, take-min}
-use Rattle.show.specs.Shown.{bytesShown, keptShown}
+use Rattle.face_values.specs.Quoted.{shownIn}
+use Rattle.show.specs.Shown.{keptShown}
 use borrow.Author.Needs.{needs}
 use Rattle.show.proofs.put_filled.Statement.{statement}
 use Rattle.show.proofs.put_filled.Tie as tie
@@ -34,16 +35,20 @@ same-length c = search needs
 
 returns : tie.Need-returns
 returns c =
-    let s = c .before .before .before .before .before .before .before .before .before .before .before .before .before .before .before .before .before .before .args in
+    let shown = c .before .before .before .before .before .before in
+    let bytes = shown .before .before .before .before .before in
+    let untouched = bytes .before .before in
+    let q = untouched .untouched in
+    let cut = untouched .before in
+    let k = cut .up-to in
+    let s = cut .before .before .before .before .args in
     let x = text (s .at) (s .out .now) in
-    let k = c .before .before .before .before .before .before .before .before .before .before .before .before .before .before .up-to in
-    let q = c .before .before .before .before .before .before .before .before .before .before .before .before .before .untouched in
     let l = s .lent .now in
     let w = s .word .now in
-    put-then x w (bytesShown (take (k .result) l) ++ keptShown (q .result)) (c .before .before .before .before .before .before .before .before .before .before .before .put-bytes .ensures)
-    (put-then _ (bytesShown (take (k .result) l)) (keptShown (q .result)) (c .before .before .before .before .before .before .put-shown .ensures) (c .before .before .put-kept .ensures))
-    ∙ ap (λ (t : List ℕ). put x (w ++ (bytesShown t ++ keptShown (q .result)))) (ap (λ (i : ℕ). take i l) (k .ensures .0) ∙ take-min (s .n) l)
-    ∙ ap (λ (b : Bool). put x (w ++ (bytesShown (take (s .n) l) ++ keptShown b))) (q .ensures)
+    put-then x w (shownIn (take (k .result) l) ++ keptShown (q .result)) (bytes .put-bytes .ensures)
+    (put-then _ (shownIn (take (k .result) l)) (keptShown (q .result)) (shown .put-shown .ensures) (c .before .before .put-kept .ensures))
+    ∙ ap (λ (t : List ℕ). put x (w ++ (shownIn t ++ keptShown (q .result)))) (ap (λ (i : ℕ). take i l) (k .ensures .0) ∙ take-min (s .n) l)
+    ∙ ap (λ (b : Bool). put x (w ++ (shownIn (take (s .n) l) ++ keptShown b))) (q .ensures)
 
 pub put-filled-spec : {M : Type 1} → statement M
 put-filled-spec =

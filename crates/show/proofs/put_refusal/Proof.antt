@@ -1,13 +1,6 @@
--- `show::put_refusal` meets its contract: the word, the number, the values. Assumes nothing.
-use Prim.Native.Nat.{ℕ}
-use mathlib.Core.Path.{ap, _∙_}
-use mathlib.Core.List.{List, _∷_, [], _++_}
-use lib.ListN.{take}
-use Rattle.refusal.specs.Refusal.{rowOf}
-use Rattle.text_out.specs.Text.{text, put, ascii}
-use Rattle.text_out.specs.Digits.{decimalOf}
-use Rattle.text_out.proofs.Laws.{put-then}
-use Rattle.show.specs.Shown.{valuesShown, refusalShown}
+-- `show::put_refusal` meets its contract. Assumes nothing.
+use mathlib.Core.Path.{sym}
+use Rattle.show.specs.Shown.{refusalShown}
 use borrow.Author.Needs.{needs}
 use Rattle.show.proofs.put_refusal.Statement.{statement}
 use Rattle.show.proofs.put_refusal.Tie as tie
@@ -18,35 +11,39 @@ values-of-requires c κs = search needs
 number-requires : tie.Need-number-requires
 number-requires c κs = search needs
 
-slice-aggregate-put-bytes : tie.Need-slice-aggregate-put-bytes
-slice-aggregate-put-bytes c = search needs
+array-write-numbers : tie.Need-array-write-numbers
+array-write-numbers c = search needs
 
-put-bytes-requires : tie.Need-put-bytes-requires
-put-bytes-requires c κs = search needs
+array-write-numbers-2 : tie.Need-array-write-numbers-2
+array-write-numbers-2 c = search needs
 
-cast-put-decimal : tie.Need-cast-put-decimal
-cast-put-decimal c = search needs
+cast-numbers : tie.Need-cast-numbers
+cast-numbers c = search needs
 
-put-decimal-requires : tie.Need-put-decimal-requires
-put-decimal-requires c κs = search needs
+array-write-numbers-3 : tie.Need-array-write-numbers-3
+array-write-numbers-3 c = search needs
 
-put-values-requires : tie.Need-put-values-requires
-put-values-requires c κs = search needs
+array-write-numbers-4 : tie.Need-array-write-numbers-4
+array-write-numbers-4 c = search needs
+
+slice-aggregate-put-refusal : tie.Need-slice-aggregate-put-refusal
+slice-aggregate-put-refusal c = search needs
+
+slice-aggregate-put-refusal-2 : tie.Need-slice-aggregate-put-refusal-2
+slice-aggregate-put-refusal-2 c = search needs
+
+put-refusal-requires : tie.Need-put-refusal-requires
+put-refusal-requires c κs = search needs
 
 same-length : tie.Need-same-length
 same-length c = search needs
 
 returns : tie.Need-returns
+unfolding refusalShown
 returns c =
-    let s = c .before .before .before .before .before .before .before .before .before .before .before .before .before .before .before .before .args in
-    let x = text (s .at) (s .out .now) in
-    let v = c .before .before .before .before .before .before .before .before .before .before .before .before .before .before .values-of in
-    let n = c .before .before .before .before .before .before .before .before .before .before .before .before .before .number in
-    let vs = take (v .result .count) (v .result .first ∷ v .result .second ∷ []) in
-    put-then x (ascii "refused ") (decimalOf (n .result) ++ valuesShown vs) (c .before .before .before .before .before .before .before .before .before .before .put-bytes .ensures)
-    (put-then _ (decimalOf (n .result)) (valuesShown vs) (c .before .before .before .before .before .before .put-decimal .ensures) (c .before .before .put-values .ensures))
-    ∙ ap (λ (k : ℕ). put x (refusalShown (record { number = k; values = vs }))) (n .ensures)
-    ∙ ap (λ (l : List ℕ). put x (refusalShown (record { number = rowOf (s .refusal) .number; values = l }))) (v .ensures)
+    let number = c .before .before .before .before .before .before in
+    let v = number .before .values-of .ensures in
+    rw (sym (v .first), sym (v .second), sym (v .count), sym (number .number .ensures)) (c .before .before .put-refusal .ensures)
 
 pub put-refusal-spec : {M : Type 1} → statement M
 put-refusal-spec =
@@ -54,10 +51,13 @@ put-refusal-spec =
     (tie.spec
     values-of-requires
     number-requires
-    slice-aggregate-put-bytes
-    put-bytes-requires
-    cast-put-decimal
-    put-decimal-requires
-    put-values-requires
+    array-write-numbers
+    array-write-numbers-2
+    cast-numbers
+    array-write-numbers-3
+    array-write-numbers-4
+    slice-aggregate-put-refusal
+    slice-aggregate-put-refusal-2
+    put-refusal-requires
     same-length
     returns)

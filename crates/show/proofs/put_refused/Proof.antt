@@ -24,10 +24,12 @@ same-length c = search needs
 
 returns : tie.Need-returns
 returns c =
-    let s = c .before .before .before .before .before .before .before .before .before .before .before .args in
+    let refusal = c .before .before .before .before .before .before in
+    let untouched = refusal .before .before in
+    let q = untouched .untouched in
+    let s = untouched .before .before .before .args in
     let x = text (s .at) (s .out .now) in
-    let q = c .before .before .before .before .before .before .before .before .untouched in
-    put-then x (refusalShown (rowOf (s .refusal))) (keptShown (q .result)) (c .before .before .before .before .before .before .put-refusal .ensures) (c .before .before .put-kept .ensures)
+    put-then x (refusalShown (rowOf (s .refusal))) (keptShown (q .result)) (refusal .put-refusal .ensures) (c .before .before .put-kept .ensures)
     ∙ ap (λ (b : Bool). put x (refusalShown (rowOf (s .refusal)) ++ keptShown b)) (q .ensures)
 
 pub put-refused-spec : {M : Type 1} → statement M

@@ -15,11 +15,11 @@ put-bytes-requires c κs = search needs
 enum-known-number : tie.Need-enum-known-number
 enum-known-number c = search needs
 
-cast-put-value : tie.Need-cast-put-value
-cast-put-value c = search needs
+cast-put-number : tie.Need-cast-put-number
+cast-put-number c = search needs
 
-put-value-requires : tie.Need-put-value-requires
-put-value-requires c κs = search needs
+put-number-requires : tie.Need-put-number-requires
+put-number-requires c κs = search needs
 
 same-length : tie.Need-same-length
 same-length c = search needs
@@ -31,7 +31,7 @@ same-length-2 : tie.Need-same-length-2
 same-length-2 c = search needs
 
 returns-2 : tie.Need-returns-2
-returns-2 c = rw (c .before .before .before .before .before .number .given .1) (c .before .before .put-value .ensures)
+returns-2 c = rw (c .before .before .before .before .before .number .given .1) (c .before .before .put-number .ensures)
 
 pub put-id-spec : {M : Type 1} → statement M
 put-id-spec =
@@ -41,8 +41,8 @@ put-id-spec =
     slice-aggregate-put-bytes
     put-bytes-requires
     enum-known-number
-    cast-put-value
-    put-value-requires
+    cast-put-number
+    put-number-requires
     same-length
     returns
     same-length-2

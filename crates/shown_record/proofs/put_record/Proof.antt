@@ -4,7 +4,7 @@ use mathlib.Core.List.{List, [], _∷_, _++_}
 use Prim.Native.Nat.{ℕ}
 use Rattle.text_out.specs.Text.{text, put}
 use Rattle.text_out.proofs.Laws.{put-then}
-use Rattle.show.specs.Shown.{bytesShown}
+use Rattle.face_values.specs.Quoted.{shownIn}
 use Rattle.shown_record.specs.Record.{idShown, number}
 use borrow.Author.Needs.{needs}
 use Rattle.shown_record.proofs.put_record.Statement.{statement}
@@ -19,14 +19,14 @@ trim-requires c κs = search needs
 put-id-requires : tie.Need-put-id-requires
 put-id-requires c κs = search needs
 
-cast-put-value : tie.Need-cast-put-value
-cast-put-value c = search needs
+cast-put-number : tie.Need-cast-put-number
+cast-put-number c = search needs
 
-put-value-requires : tie.Need-put-value-requires
-put-value-requires c κs = search needs
+put-number-requires : tie.Need-put-number-requires
+put-number-requires c κs = search needs
 
-put-value-requires-2 : tie.Need-put-value-requires-2
-put-value-requires-2 c κs = search needs
+put-number-requires-2 : tie.Need-put-number-requires-2
+put-number-requires-2 c κs = search needs
 
 put-byte-requires : tie.Need-put-byte-requires
 put-byte-requires c κs = search needs
@@ -52,9 +52,9 @@ returns c =
     let trimmed = id .before .before in
     let s = trimmed .before .before .before .before .args in
     let r = s .state in
-    put-then _ _ _ (put-then _ _ _ (put-then _ _ _ (id .put-id .ensures) (fragment .put-value .ensures)) (len .put-value2 .ensures))
+    put-then _ _ _ (put-then _ _ _ (put-then _ _ _ (id .put-id .ensures) (fragment .put-number .ensures)) (len .put-number2 .ensures))
     (put-then _ (32 ∷ []) _ (byte .put-byte .ensures) (c .before .before .put-shown .ensures))
-    ∙ ap (λ (t : List ℕ). put (text (s .at) (s .out .now)) (idShown (r .number) ++ number (r .fragment) ++ number (r .len) ++ (32 ∷ bytesShown t)))
+    ∙ ap (λ (t : List ℕ). put (text (s .at) (s .out .now)) (idShown (r .number) ++ number (r .fragment) ++ number (r .len) ++ (32 ∷ shownIn t)))
     (trimmed .trim .ensures .0)
 
 pub put-record-spec : {M : Type 1} → statement M
@@ -64,9 +64,9 @@ put-record-spec =
     slice-aggregate-trim
     trim-requires
     put-id-requires
-    cast-put-value
-    put-value-requires
-    put-value-requires-2
+    cast-put-number
+    put-number-requires
+    put-number-requires-2
     put-byte-requires
     array-share-prefix-bytes
     slice-aggregate-put-shown
