@@ -114,7 +114,7 @@ masked-fits x = record { fits = mask-lt x 8 }
 -- ---- the stream of a payload, by its characters
 pub stream-lt : (s : List ℕ) (fill i : ℕ) → stream s fill i < 2
 unfolding stream
-stream-lt s fill = cut-lt (length s * 6 - fill) (bitAt 6 (map meaning s)) (bit-lt 6 (map meaning s))
+stream-lt s fill = cut-lt _ (bitAt 6 (map meaning s)) (bit-lt 6 (map meaning s))
 
 pub getD-map : (g : ℕ → ℕ) (s : List ℕ) (i : ℕ) → i < length s → getD (map g s) i 0 ≡ g (getD s i 0)
 getD-map g [] i h = absurd (not-suc-le-zero h)

@@ -53,7 +53,8 @@ shared-slice-read-last-six c = search needs
 
 last-six-requires : tie.Need-last-six-requires Inv-loop μ-loop
 last-six-requires c κs =
-    (good _ _ (c .before .before .before .before .before .pre .0) _ (omega arith), c .before .before .before .before .before .pre .0 .filled)
+    let p = c .before .before .before .before .before .pre .0 in
+    (good _ _ p _ (omega arith), omega (arith, p .filled))
 
 element-write-out-2 : tie.Need-element-write-out-2 Inv-loop μ-loop
 element-write-out-2 c = omega (arith, c .before .before .before .before .before .before .pre .0 .few)
