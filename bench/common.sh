@@ -23,7 +23,7 @@ build_bench() {
     mkdir -p "$room/.cargo"
     printf '[source.crates-io]\nreplace-with = "debian"\n[source.debian]\ndirectory = "%s"\n' "$registry" >"$room/.cargo/config.toml"
     local library
-    library=$(archive exported)
+    library=$(archive sumturnip)
     (cd "$room" && SUMTURNIP_LIB=$library cargo build --release --offline --quiet)
 }
 

@@ -32,7 +32,7 @@ fn letter(v: u8) -> u8 {
     if v < 40 { v + 48 } else { v + 56 }
 }
 
-/// A payload of a type, and random bits behind it.
+/// A payload of a type, and random bits after it.
 fn payload(random: &mut Random, kind: u8, length: usize) -> Vec<u8> {
     let mut text = vec![letter(kind)];
     text.extend((1..length).map(|_| letter(random.below(64) as u8)));

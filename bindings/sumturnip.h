@@ -1,5 +1,5 @@
-/* The reader for C: the functions of the static library that `rt staticlib exported` makes (target/staticlib/libexported.a), for x86-64.
- * Each call returns, reads and writes only what is lent to it, and answers as crates/exported/specs/Calls.antt says.
+/* The reader for C: the functions of the static library that `rt staticlib sumturnip` makes (target/staticlib/libsumturnip.a), for x86-64.
+ * Each call returns, reads and writes only what is lent to it, and answers as crates/sumturnip/specs/Calls.antt says.
  * A slice is a pointer, never null, and then its length. What is written must not overlap anything else that is lent to the same call.
  * What is proved is the library's answer to such a call; that a caller keeps to this page is not checked. */
 #ifndef SUMTURNIP_H

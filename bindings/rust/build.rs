@@ -9,9 +9,9 @@ fn main() {
         Some(folder) => PathBuf::from(folder),
         None => PathBuf::from(env::var_os("CARGO_MANIFEST_DIR").unwrap()).join("../../target/staticlib"),
     };
-    let archive = folder.join("libexported.a");
-    assert!(archive.exists(), "libexported.a is not in {}: run `rt staticlib exported`, or let SUMTURNIP_LIB name its folder", folder.display());
+    let archive = folder.join("libsumturnip.a");
+    assert!(archive.exists(), "libsumturnip.a is not in {}: run `rt staticlib sumturnip`, or let SUMTURNIP_LIB name its folder", folder.display());
     println!("cargo:rerun-if-changed={}", archive.display());
     println!("cargo:rustc-link-search=native={}", folder.display());
-    println!("cargo:rustc-link-lib=static=exported");
+    println!("cargo:rustc-link-lib=static=sumturnip");
 }

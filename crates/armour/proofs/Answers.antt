@@ -7,7 +7,7 @@ use borrow.Author.Tests.{lt-ltb, le-ltb, eq-eqb, ne-eqb}
 use lib.ListN.{length}
 use Rattle.armour.specs.Armour.{firstBad, size, unarmored}
 use Rattle.refusal.specs.Words.{Told, taken, refused, left}
-use Rattle.armour.specs.Unarmor.{answered, badFill, answerOf, Unarmors}
+use Rattle.armour.specs.Unarmor.{unarmoredIn, badFill, answerOf, Unarmors}
 use Rattle.armour.specs.declared.Unarmored.{Unarmored}
 
 module _ (s : List ℕ) (fill : ℕ) where
@@ -49,5 +49,6 @@ module _ (s : List ℕ) (fill : ℕ) where
       unfolding answerOf
       says-taken h r k = rw (b, le-ltb 384 (length s) h, le-ltb room (size (length s)) r, le-ltb (firstBad s) (length s) k)
 
-  pub answered-by : (out : List ℕ) {r : Unarmored} {out′ : List ℕ} (t : Told ℕ) → answerOf s fill (length out) ≡ t → answered r ≡ t → out′ ≡ left t (unarmored s fill) out → Unarmors s fill out r out′
+  pub answered-by : (out : List ℕ) {r : Unarmored} {out′ : List ℕ} (t : Told ℕ) → answerOf s fill (length out) ≡ t
+      → unarmoredIn r ≡ t → out′ ≡ left t (unarmored s fill) out → Unarmors s fill out r out′
   answered-by out t e p q = record { answers = p ∙ sym e; leaves = rw e q }

@@ -32,7 +32,7 @@ good-at (b ∷ s) i h g =
     good (suc i) h l p more = more i (omega arith) (omega arith)
 
 module _ (f : ℕ → ℕ) where
-  -- the first i characters stand there, and zeros behind them
+  -- the first i characters stand there, and zeros after them
   pub record Begun (i : ℕ) (out : List ℕ) : Type 0 where
     pub long : length out ≡ 384
     pub six : (j : ℕ) → j < i → getD out j 0 ≡ val f (j * 6) 6

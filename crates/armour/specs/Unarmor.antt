@@ -12,9 +12,9 @@ use Rattle.armour.specs.declared.Unarmored.{Unarmored}
 use Rattle.armour.specs.declared.Unarmored.the-variants.{Bytes, Refused}
 
 -- the answer on paper: the output's length, or document 01's number and values
-abbrev pub answered : Unarmored → Told ℕ
-answered (Bytes n) = taken n
-answered (Refused r) = told r
+abbrev pub unarmoredIn : Unarmored → Told ℕ
+unarmoredIn (Bytes n) = taken n
+unarmoredIn (Refused r) = told r
 
 -- 7: "fill over 5, or fill with empty data"
 unfoldable pub badFill : List ℕ → ℕ → Bool
@@ -46,5 +46,5 @@ answerOf s fill room = checked (checksOf s fill room) (taken (size (length s)))
 
 -- the promise: the answer and every lent byte
 pub record Unarmors (s : List ℕ) (fill : ℕ) (out : List ℕ) (r : Unarmored) (out′ : List ℕ) : Type 0 where
-  pub answers : answered r ≡ answerOf s fill (length out)
+  pub answers : unarmoredIn r ≡ answerOf s fill (length out)
   pub leaves : out′ ≡ left (answerOf s fill (length out)) (unarmored s fill) out

@@ -32,7 +32,7 @@ fn emptied(s: Kept, out: &[u8]) -> Kept {
 }
 
 // The next line, answered.
-fn turn(s: Run, block: &mut [u8], line: &mut [u8], out: &mut [u8]) -> Run {
+fn answer_one(s: Run, block: &mut [u8], line: &mut [u8], out: &mut [u8]) -> Run {
     let input = s.input;
     let kept = s.kept;
     let t = stream::next_line(input, MOST, true, block, line);
@@ -45,17 +45,17 @@ fn turn(s: Run, block: &mut [u8], line: &mut [u8], out: &mut [u8]) -> Run {
     }
 }
 
-// All lines. Nothing says that the input ends, so the loop counts its turns down, from a number that no run uses up.
+// All lines. Nothing says that the input ends, so the loop counts its rounds down, from a number that no run uses up.
 // Answers how much of the output buffer is in use at the end.
 fn answer_all(s: Run, block: &mut [u8], line: &mut [u8], out: &mut [u8]) -> usize {
     let mut now = s;
-    let mut turns = u64::MAX;
-    while turns > 0 {
-        now = turn(now, block, line, out);
+    let mut rounds = u64::MAX;
+    while rounds > 0 {
+        now = answer_one(now, block, line, out);
         if !now.input.more {
             return now.kept.used;
         }
-        turns -= 1;
+        rounds -= 1;
     }
     now.kept.used
 }

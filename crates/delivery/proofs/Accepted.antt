@@ -3,7 +3,7 @@ use mathlib.Core.List.{List, _∷_, map, List·Memᴰ, List·Memᴰ·head, List�
 use Rattle.writer.proofs.Sendable.{sendable}
 use Rattle.delivery.specs.Calls.{Accepted, messageIn, Demand3}
 use Rattle.delivery.proofs.Called.{reads}
-use Rattle.delivery.proofs.Turns.{AllSendable}
+use Rattle.delivery.proofs.Effects.{AllSendable}
 use Rattle.delivery.proofs.Safe.{safety}
 use Rattle.delivery.proofs.Delivered.{delivery, delivery-alone}
 use Rattle.delivery.proofs.Numbered.{numbered}

@@ -2,7 +2,6 @@
 use Prim.Native.Nat.{ℕ, _+_, _≤_}
 use native.Mathlib.Omega.{arith}
 use mathlib.Core.Path.{_≡_, refl, sym, ap, ap₂, _∙_}
-use mathlib.Core.Bool.{false}
 use mathlib.Core.List.{List}
 use lib.ListN.{length, take, drop, replicate}
 use lib.Seq.{take-append-seam}
@@ -12,10 +11,11 @@ use Rattle.refusal.specs.declared.Refusal.{Refusal}
 use Rattle.sentence.specs.Written.{lineText, Writable}
 use Rattle.sentence.specs.declared.Number.{Number}
 use Rattle.sentence.proofs.ReadBack.{read-back, payload-back, text-short}
-use Rattle.reassembly.specs.Record.{Join, emptyAs, freshRecord, emptiedOf, joinOf}
+use Rattle.reassembly.specs.Record.{Join, emptyAs, holding, freshRecord, emptiedOf, joinOf}
 use Rattle.reassembly.specs.declared.Record.{Record}
 use Rattle.reassembly.specs.declared.Fragment.{Fragment}
 use Rattle.reassembly.specs.declared.Part.{Part}
+use Rattle.answer.specs.declared.Decode.{Decode}
 use Rattle.ais.specs.Call.{Called, fragmentOf}
 use Rattle.ais.specs.Parts.{finishedOf, receivedOf}
 use Rattle.ais.proofs.Called.{to-received}
@@ -27,14 +27,15 @@ use Rattle.delivery.specs.Calls as calls
 use Rattle.delivery.specs.Calls.{Lent, answerIn, onCall}
 use Rattle.delivery.proofs.Reader.{Reader, line, gives}
 use Rattle.delivery.proofs.Lines.{own, said, fragment, single, all-lines, own-short, own-is, of-several, last-fill, of-single}
-use Rattle.delivery.proofs.Holding.{heldOf, holding, held-last, join-single, join-first, join-next, join-last, join-out-of-turn, join-other, join-fresh}
+use Rattle.delivery.proofs.Holding.{heldOf, held-last, join-single, join-first, join-next, join-last, join-out-of-order, join-other, join-fresh}
 
 -- what the caller reads off a call, and the record after it
-abbrev seen : Called → calls.Outcome Record
+abbrev seen : Called → calls.Step Record
 seen c = gives (answerIn c) (c .after)
 
 -- what stands first in a buffer is read off it again
-pub handed-read : (xs buffer : List ℕ) (fill : ℕ) (after : Record) → gives (complete (take (length xs) (over xs buffer)) fill) after ≡ gives (complete xs fill) after
+pub handed-read : (xs buffer : List ℕ) (fill : ℕ) (after : Record)
+    → gives (complete (take (length xs) (over xs buffer)) fill) after ≡ gives (complete xs fill) after
 handed-read xs buffer fill after = ap (λ (ys : List ℕ). gives (complete ys fill) after) (take-append-seam xs (drop (length xs) buffer))
 
 -- a line of ours, with large buffers lent: what is seen is the record's step on its sentence and its payload
@@ -45,18 +46,20 @@ module _ (lent : ℕ → Lent) (p : ℕ) (r : Record) (m : Message) (s : Sendabl
   short : length (lineText (partsOf m i)) ≤ 1024
   short = omega (arith, text-short (partsOf m i) w, ap length (own-is m i), own-short m i)
 
-  call-is : onCall lent p r (line m i) ≡ seen (receivedOf r (said m i) (own m i) false (lent p .payload) (lent p .bits))
+  call-is : onCall lent p r (line m i) ≡ seen (receivedOf r (said m i) (own m i) Decode.Off (lent p .payload) (lent p .bits))
   unfolding onCall textOf
   call-is =
       let payload = lent p .payload in
       let bits = lent p .bits in
       ap seen
-      (sym (to-received r (lineText (partsOf m i)) false payload bits (lent p .payload-large) (lent p .bits-large) short (said m i) (read-back (partsOf m i) w) refl)
-      ∙ ap (λ (xs : List ℕ). receivedOf r (said m i) xs false payload bits) (payload-back (partsOf m i) w ∙ own-is m i))
+      (sym (to-received r (lineText (partsOf m i)) Decode.Off payload bits (lent p .payload-large) (lent p .bits-large) short (said m i)
+      (read-back (partsOf m i) w) refl)
+      ∙ ap (λ (xs : List ℕ). receivedOf r (said m i) xs Decode.Off payload bits) (payload-back (partsOf m i) w ∙ own-is m i))
 
   -- the ways out, by what the record's rules make of the line
   module _ (f : Fragment) (e : fragmentOf (said m i) ≡ f) (after : Record) where
-    its-join : (t : Told Part) → joinOf r f (own m i) ≡ record { told = t; after = after } → joinOf r (fragmentOf (said m i)) (own m i) ≡ record { told = t; after = after }
+    its-join : (t : Told Part) → joinOf r f (own m i) ≡ record { told = t; after = after }
+        → joinOf r (fragmentOf (said m i)) (own m i) ≡ record { told = t; after = after }
     its-join t q = rw e q
 
     its-told : (t : Told Part) → joinOf r f (own m i) ≡ record { told = t; after = after } → (joinOf r (fragmentOf (said m i)) (own m i)) .told ≡ t
@@ -65,36 +68,40 @@ module _ (lent : ℕ → Lent) (p : ℕ) (r : Record) (m : Message) (s : Sendabl
     its-after : (t : Told Part) → joinOf r f (own m i) ≡ record { told = t; after = after } → (joinOf r (fragmentOf (said m i)) (own m i)) .after ≡ after
     its-after t q = ap (λ (j : Join). j .after) (its-join t q)
 
-    to-refused : (refusal : Refusal) → joinOf r f (own m i) ≡ record { told = told refusal; after = after } → onCall lent p r (line m i) ≡ gives (Answer.refused (rowOf refusal .number)) after
+    to-refused : (refusal : Refusal) → joinOf r f (own m i) ≡ record { told = told refusal; after = after }
+        → onCall lent p r (line m i) ≡ gives (Answer.refused (rowOf refusal .number)) after
     to-refused refusal q =
         call-is
-        ∙ ap seen (received-refused r (said m i) (own m i) _ _ (its-told (told refusal) q) false (lent p .payload) (lent p .bits))
+        ∙ ap seen (received-refused r (said m i) (own m i) _ _ (its-told (told refusal) q) Decode.Off (lent p .payload) (lent p .bits))
         ∙ ap (λ (a : Record). gives (Answer.refused (rowOf refusal .number)) a) (its-after (told refusal) q)
 
     pub to-unfinished : joinOf r f (own m i) ≡ record { told = taken Part.Unfinished; after = after } → onCall lent p r (line m i) ≡ gives unfinished after
     to-unfinished q =
         call-is
-        ∙ ap seen (received-unfinished r (said m i) (own m i) false (lent p .payload) (lent p .bits) (its-told (taken Part.Unfinished) q))
+        ∙ ap seen (received-unfinished r (said m i) (own m i) Decode.Off (lent p .payload) (lent p .bits) (its-told (taken Part.Unfinished) q))
         ∙ ap (λ (a : Record). gives unfinished a) (its-after (taken Part.Unfinished) q)
 
     pub to-last : joinOf r f (own m i) ≡ record { told = taken Part.Last; after = after }
         → onCall lent p r (line m i) ≡ gives (complete (take (after .len) (after .bytes)) (said m i .«fill_bit_count»)) (emptiedOf after)
     to-last q =
         call-is
-        ∙ ap seen (received-last r (said m i) (own m i) false (lent p .payload) (lent p .bits) (its-told (taken Part.Last) q))
-        ∙ ap (λ (a : Record). seen (finishedOf (emptiedOf a) (said m i) (take (a .len) (a .bytes)) false (lent p .payload) (lent p .bits))) (its-after (taken Part.Last) q)
+        ∙ ap seen (received-last r (said m i) (own m i) Decode.Off (lent p .payload) (lent p .bits) (its-told (taken Part.Last) q))
+        ∙ ap (λ (a : Record). seen (finishedOf (emptiedOf a) (said m i) (take (a .len) (a .bytes)) Decode.Off (lent p .payload) (lent p .bits)))
+        (its-after (taken Part.Last) q)
         ∙ handed-read (take (after .len) (after .bytes)) (lent p .payload) (said m i .«fill_bit_count») (emptiedOf after)
 
-    to-alone : joinOf r f (own m i) ≡ record { told = taken Part.Alone; after = after } → onCall lent p r (line m i) ≡ gives (complete (own m i) (said m i .«fill_bit_count»)) after
+    to-alone : joinOf r f (own m i) ≡ record { told = taken Part.Alone; after = after }
+        → onCall lent p r (line m i) ≡ gives (complete (own m i) (said m i .«fill_bit_count»)) after
     to-alone q =
         call-is
-        ∙ ap seen (received-alone r (said m i) (own m i) false (lent p .payload) (lent p .bits) (its-told (taken Part.Alone) q))
-        ∙ ap (λ (a : Record). seen (finishedOf a (said m i) (own m i) false (lent p .payload) (lent p .bits))) (its-after (taken Part.Alone) q)
+        ∙ ap seen (received-alone r (said m i) (own m i) Decode.Off (lent p .payload) (lent p .bits) (its-told (taken Part.Alone) q))
+        ∙ ap (λ (a : Record). seen (finishedOf a (said m i) (own m i) Decode.Off (lent p .payload) (lent p .bits))) (its-after (taken Part.Alone) q)
         ∙ handed-read (own m i) (lent p .payload) (said m i .«fill_bit_count») after
 
 -- what is seen of a last line
 module _ (m : Message) (i : ℕ) where
-  last-seen : i ≡ linesIn m → gives (complete (take (length (m .payload)) (over (m .payload) (replicate 384 0))) (said m i .«fill_bit_count»)) (emptyAs (Number.Of (m .number)) i)
+  last-seen : i ≡ linesIn m
+      → gives (complete (take (length (m .payload)) (over (m .payload) (replicate 384 0))) (said m i .«fill_bit_count»)) (emptyAs (Number.Of (m .number)) i)
       ≡ gives (complete (m .payload) (m .fill)) (heldOf m i)
   last-seen e =
       handed-read (m .payload) (replicate 384 0) (said m i .«fill_bit_count») (emptyAs (Number.Of (m .number)) i)
@@ -103,18 +110,23 @@ module _ (m : Message) (i : ℕ) where
 pub reads : (lent : ℕ → Lent) → Reader (onCall lent) freshRecord
 reads lent = record {
   held = heldOf;
-  alone = λ m s p r e. to-alone lent p r m s 1 (omega arith) (omega arith) single (of-single m e) r (join-single m r) ∙ rw (all-lines m 1 (sym e), last-fill m 1 (sym e));
+  alone = λ m s p r e.
+      to-alone lent p r m s 1 (omega arith) (omega arith) single (of-single m e) r (join-single m r) ∙ rw (all-lines m 1 (sym e), last-fill m 1 (sym e));
   first = λ m s p r h. to-unfinished lent p r m s 1 (omega arith) (omega arith) (fragment m 1) (of-several m 1 h) (heldOf m 1) (join-first m s h r);
   next = λ m s p j h l.
-      to-unfinished lent p (heldOf m j) m s (j + 1) (omega arith) (omega arith) (fragment m (j + 1)) (of-several m (j + 1) (omega arith)) (heldOf m (j + 1)) (join-next m s (omega arith) j h l);
+      to-unfinished lent p (heldOf m j) m s (j + 1) (omega arith) (omega arith) (fragment m (j + 1)) (of-several m (j + 1) (omega arith)) (heldOf m (j + 1))
+      (join-next m s (omega arith) j h l);
   last = λ m s p j h e.
       to-last lent p (heldOf m j) m s (j + 1) (omega arith) (omega arith) (fragment m (j + 1)) (of-several m (j + 1) (omega arith))
       (holding (Number.Of (m .number)) (j + 1) (m .payload)) (join-last m s (omega arith) j h e)
       ∙ last-seen m (j + 1) e;
-  out-of-turn = λ m s p j i h l d.
-      to-refused lent p (heldOf m j) m s i (omega arith) l (fragment m i) (of-several m i (omega arith)) (heldOf m j) Refusal.FragmentNumber (join-out-of-turn m s (omega arith) j i h l d);
+  out-of-order = λ m s p j i h l d.
+      to-refused lent p (heldOf m j) m s i (omega arith) l (fragment m i) (of-several m i (omega arith)) (heldOf m j) Refusal.FragmentNumber
+      (join-out-of-order m s (omega arith) j i h l d);
   other-number = λ m s k p j i h l d.
-      to-refused lent p (heldOf k j) m s i (omega arith) l (fragment m i) (of-several m i (omega arith)) (heldOf k j) Refusal.MessageNumber (join-other m s (omega arith) k j i h l d);
+      to-refused lent p (heldOf k j) m s i (omega arith) l (fragment m i) (of-several m i (omega arith)) (heldOf k j) Refusal.MessageNumber
+      (join-other m s (omega arith) k j i h l d);
   at-fresh = λ m s p i h l.
-      to-refused lent p freshRecord m s i (omega arith) l (fragment m i) (of-several m i (omega arith)) freshRecord Refusal.MessageNumber (join-fresh m s (omega arith) i h l);
+      to-refused lent p freshRecord m s i (omega arith) l (fragment m i) (of-several m i (omega arith)) freshRecord Refusal.MessageNumber
+      (join-fresh m s (omega arith) i h l);
 }

@@ -12,12 +12,13 @@ use lib.Seq.{append-snoc}
 use borrow.Author.Tests.{lt-ltb, ne-eqb}
 use Rattle.sentence.specs.declared.Number.{Number}
 use Rattle.writer.specs.Message.{Message, linesIn}
-use Rattle.delivery.specs.Delivery.{Arrival, Answer, unfinished, complete, AllOurs, Ours, numberOn, firstOfSeveral, newest, NoMixing, Delivery, DeliveryAlone}
-use Rattle.delivery.specs.Calls.{Outcome, answersFrom}
+use Rattle.delivery.specs.Delivery.{Arrival, Answer, unfinished, complete, AllOurs, Ours}
+use Rattle.delivery.specs.Delivery.{numberOn, firstOfSeveral, newest, NoMixing, Delivery, DeliveryAlone}
+use Rattle.delivery.specs.Calls.{Step, answersFrom}
 use Rattle.delivery.proofs.Lines.{number-several}
 use Rattle.delivery.proofs.Reader.{Reader, line, gives}
-use Rattle.delivery.proofs.Turns as turns
-use Rattle.delivery.proofs.Turns.{AllSendable, Turn, its-turn, stays}
+use Rattle.delivery.proofs.Effects as effects
+use Rattle.delivery.proofs.Effects.{AllSendable, Effect, joins, stays}
 use Rattle.delivery.proofs.Safe.{newest-snoc, later-ours}
 
 -- past the head of a list
@@ -29,7 +30,8 @@ past a l (suc q) h = let e : suc q - 1 ≡ q = omega arith in rw e
 head-is : (a : Arrival) (rest : List Arrival) (q : ℕ) (b : Arrival) → q ≡ 0 → getElem? (a ∷ rest) q ≡ some b → a ≡ b
 head-is a rest q b z e = Option·some-inj .0 (subst (λ (i : ℕ). getElem? (a ∷ rest) i ≡ some b) z e)
 
-module _ {S : Type 0} {does : ℕ → S → Arrival → Outcome S} {fresh : S} (reader : Reader does fresh) (sent : List Message) (sendable : AllSendable sent) (m : Message) where
+module _ {S : Type 0} {does : ℕ → S → Arrival → Step S} {fresh : S} (reader : Reader does fresh) (sent : List Message)
+    (sendable : AllSendable sent) (m : Message) where
   abbrev n : ℕ
   n = linesIn m
 
@@ -44,9 +46,9 @@ module _ {S : Type 0} {does : ℕ → S → Arrival → Outcome S} {fresh : S} (
 
   -- m is handed out by place e when rest arrives at the state s, from call p on
   record Given (p : ℕ) (s : S) (rest : List Arrival) (e : ℕ) : Type 0 where
-    place : ℕ
-    by : place ≤ e
-    given : getElem? (answersFrom does p s rest) place ≡ some (complete (m .payload) (m .fill))
+    when : ℕ
+    by : when ≤ e
+    given : getElem? (answersFrom does p s rest) when ≡ some (complete (m .payload) (m .fill))
 
   -- what is still to come after the head: the head was line i, the last one or not, or nothing of it
   data After (i : ℕ) (a : Arrival) (rest : List Arrival) (e : ℕ) : Type 0 where
@@ -88,14 +90,15 @@ module _ {S : Type 0} {does : ℕ → S → Arrival → Outcome S} {fresh : S} (
               let r = c .in-range in
               was-one hd (omega (arith, c .ends, c .order i n (omega arith) (omega arith) (omega arith)))
               (later (i + 1) (omega arith) (omega arith) (omega (arith, c .order i (i + 1) (omega arith) (omega arith) (omega arith))))
-      by-place (no d) = was-none (omega (arith, c .ends, pos i (omega arith) (omega arith) n (c .in-range) (omega arith))) (later i (omega arith) (c .in-range) (omega arith))
+      by-place (no d) =
+          was-none (omega (arith, c .ends, pos i (omega arith) (omega arith) n (c .in-range) (omega arith))) (later i (omega arith) (c .in-range) (omega arith))
 
   module _ (p : ℕ) (s s′ : S) (a : Arrival) (rest : List Arrival) (e : ℕ) where
     given-here : does p s a ≡ gives (complete (m .payload) (m .fill)) s′ → Given p s (a ∷ rest) e
-    given-here q = record { place = 0; by = omega arith; given = rw q }
+    given-here q = record { when = 0; by = omega arith; given = rw q }
 
     given-later : (x : Answer) → does p s a ≡ gives x s′ → 1 ≤ e → Given (suc p) s′ rest (e - 1) → Given p s (a ∷ rest) e
-    given-later x q h g = record { place = suc (g .place); by = let b = g .by in omega arith; given = rw q (g .given) }
+    given-later x q h g = record { when = suc (g .when); by = let b = g .by in omega arith; given = rw q (g .given) }
 
   module _ (several : 1 < n) where
     -- the head starts nothing, since no first of several comes before the last line, nor is the last line one
@@ -114,13 +117,13 @@ module _ {S : Type 0} {does : ℕ → S → Arrival → Outcome S} {fresh : S} (
         → 1 ≤ j → j < n → i ≤ j + 1 → Coming i (a ∷ rest) e
         → ((i′ j′ : ℕ) → 1 ≤ j′ → j′ < n → i′ ≤ j′ + 1 → Coming i′ rest (e - 1) → Given (suc p) (reader .held m j′) rest (e - 1))
         → Given p (reader .held m j) (a ∷ rest) e
-    one p i j a rest e w same h l d c rec = go (turns.turn reader sent sendable p m several j a w (head-idle i a rest e c) same)
+    one p i j a rest e w same h l d c rec = go (effects.effect reader sent sendable p m several j a w (head-idle i a rest e c) same)
       where
-        go : Turn reader sent sendable p m several j a → Given p (reader .held m j) (a ∷ rest) e
-        go (its-turn o q) = by (ℕ-discrete (j + 1) n)
+        go : Effect reader sent sendable p m several j a → Given p (reader .held m j) (a ∷ rest) e
+        go (joins o q) = by (ℕ-discrete (j + 1) n)
           where
-            adv : turns.Advanced reader sent sendable p m j a
-            adv = turns.advance reader sent sendable p m j h a w o q
+            adv : effects.Advanced reader sent sendable p m j a
+            adv = effects.advance reader sent sendable p m j h a w o q
 
             by : Dec (j + 1 ≡ n) → Given p (reader .held m j) (a ∷ rest) e
             by (yes z) = given-here p (reader .held m j) (reader .held m (j + 1)) a rest e (rw (adv .whole z) at (adv .is))
@@ -136,10 +139,10 @@ module _ {S : Type 0} {does : ℕ → S → Arrival → Outcome S} {fresh : S} (
                 on (was-last hd t) = let x : a .line ≡ i = ap (λ (y : Arrival). y .line) hd in absurd (omega (arith, below))
                 on (was-one hd s c′) = joined s (rec (i + 1) (j + 1) (omega arith) below (omega arith) c′)
                 on (was-none s c′) = joined s (rec i (j + 1) (omega arith) below (omega arith) c′)
-        go (stays no-turn t) = on (after i a rest e c)
+        go (stays not-its t) = on (after i a rest e c)
           where
             not-next : a ≡ line m i → i ≢ j + 1
-            not-next hd z = no-turn (ap (λ (y : Arrival). y .of) hd) (ap (λ (y : Arrival). y .line) hd ∙ z)
+            not-next hd z = not-its (ap (λ (y : Arrival). y .of) hd) (ap (λ (y : Arrival). y .line) hd ∙ z)
 
             stayed : 1 ≤ e → Given (suc p) (reader .held m j) rest (e - 1) → Given p (reader .held m j) (a ∷ rest) e
             stayed = given-later p (reader .held m j) (reader .held m j) a rest e (t .says) (t .is)
@@ -155,7 +158,8 @@ module _ {S : Type 0} {does : ℕ → S → Arrival → Outcome S} {fresh : S} (
     on before [] p i j e f w u z o h l d c = absurd (Option·none-ne-some _ (c .comes n (c .in-range) (omega arith)))
     on before (a ∷ rest) p i j e f w u z o h l d c =
         one p i j a rest e (w a (List·Memᴰ·head refl))
-        (λ b q. u before rest a f refl z b (q ∙ sym (number-several (f .of) (f .line) (rw o several) ∙ ap (λ (x : Message). Number.Of (x .number)) o)) ∙ o) h l d c
+        (λ b q. u before rest a f refl z b (q ∙ sym (number-several (f .of) (f .line) (rw o several) ∙ ap (λ (x : Message). Number.Of (x .number)) o))
+        ∙ o) h l d c
         (λ i′ j′ h′ l′ d′ c′.
         on (before ++ a ∷ []) rest (suc p) i′ j′ (e - 1) f (later-ours sent a rest w) (rw append-snoc u)
         (newest-snoc before a ∙ rw (head-idle i a rest e c) z) o h′ l′ d′ c′)
@@ -170,16 +174,17 @@ module _ {S : Type 0} {does : ℕ → S → Arrival → Outcome S} {fresh : S} (
       no-first : (q : ℕ) (a : Arrival) → b < q → q < e → getElem? rest q ≡ some a → firstOfSeveral a ≡ false
 
     record GivenIn (p : ℕ) (s : S) (rest : List Arrival) (b e : ℕ) : Type 0 where
-      place : ℕ
-      from : b < place
-      by : place ≤ e
-      given : getElem? (answersFrom does p s rest) place ≡ some (complete (m .payload) (m .fill))
+      when : ℕ
+      from : b < when
+      by : when ≤ e
+      given : getElem? (answersFrom does p s rest) when ≡ some (complete (m .payload) (m .fill))
 
     -- the first line has come
-    start : (before rest : List Arrival) (a : Arrival) (p : ℕ) (s : S) (e : ℕ) → AllOurs sent (a ∷ rest) → NoMixing (before ++ a ∷ rest) → Waiting (a ∷ rest) 0 e
+    start : (before rest : List Arrival) (a : Arrival) (p : ℕ) (s : S) (e : ℕ) → AllOurs sent (a ∷ rest)
+        → NoMixing (before ++ a ∷ rest) → Waiting (a ∷ rest) 0 e
         → GivenIn p s (a ∷ rest) 0 e
     start before rest a p s e w u c =
-        record { place = suc (g .place); from = omega arith; by = omega (arith, g .by, pos n (omega arith) (omega arith), c .ends); given = rw begun (g .given) }
+        record { when = suc (g .when); from = omega arith; by = omega (arith, g .by, pos n (omega arith) (omega arith), c .ends); given = rw begun (g .given) }
       where
         hd : a ≡ line m 1
         hd = head-is a rest (c .at 1) (line m 1) (c .starts) (c .comes 1 (omega arith) (omega arith))
@@ -204,7 +209,9 @@ module _ {S : Type 0} {does : ℕ → S → Arrival → Outcome S} {fresh : S} (
         }
 
         g : Given (suc p) (reader .held m 1) rest (e - 1)
-        g = on (before ++ a ∷ []) rest (suc p) 2 1 (e - 1) a (later-ours sent a rest w) (rw append-snoc u) (newest-snoc before a ∙ rw is-first) (ap (λ (y : Arrival). y .of) hd)
+        g =
+            on (before ++ a ∷ []) rest (suc p) 2 1 (e - 1) a (later-ours sent a rest w) (rw append-snoc u) (newest-snoc before a ∙ rw is-first)
+            (ap (λ (y : Arrival). y .of) hd)
             (omega arith) several (omega arith) rest-comes
 
     -- the first line is still to come
@@ -234,7 +241,7 @@ module _ {S : Type 0} {does : ℕ → S → Arrival → Outcome S} {fresh : S} (
     wait before (a ∷ rest) p s (suc b) e w u c =
         let t = wait-more a rest b e c in
         let g = wait (before ++ a ∷ []) rest (suc p) (does p s a .after) b (e - 1) (later-ours sent a rest w) (rw append-snoc u) (t .1) in
-        record { place = suc (g .place); from = let q = g .from in omega arith; by = let q = g .by in let h = t .0 in omega arith; given = g .given }
+        record { when = suc (g .when); from = let q = g .from in omega arith; by = let q = g .by in let h = t .0 in omega arith; given = g .given }
 
 -- places that go up from each line to the next go up from any line to any later one
 goes-up : (at : ℕ → ℕ) (n : ℕ) → ((i : ℕ) → 1 ≤ i → i < n → at i < at (i + 1)) → (x y : ℕ) → 1 ≤ x → x < y → y ≤ n → at x < at y
@@ -248,18 +255,18 @@ goes-up at n up x (suc y) h l l′ = go (λ u. goes-up at n up x y h u (omega ar
     go up-to (yes e) = rw e (last (omega arith) (omega arith))
     go up-to (no d) = omega (arith, up-to (omega arith), last (omega arith) (omega arith))
 
-module _ {S : Type 0} {does : ℕ → S → Arrival → Outcome S} {fresh : S} (reader : Reader does fresh) (sent : List Message) (sendable : AllSendable sent) where
+module _ {S : Type 0} {does : ℕ → S → Arrival → Step S} {fresh : S} (reader : Reader does fresh) (sent : List Message) (sendable : AllSendable sent) where
   pub delivery : Delivery sent (answersFrom does 0 fresh)
   delivery arrivals u m several c =
-      let g = wait reader sent sendable m several [] arrivals 0 fresh (c .place 1) (c .place (linesIn m)) (u .ours) (u .no-mixing) (record {
-        at = c .place;
+      let g = wait reader sent sendable m several [] arrivals 0 fresh (c .when 1) (c .when (linesIn m)) (u .ours) (u .no-mixing) (record {
+        at = c .when;
         starts = refl;
         ends = refl;
         comes = c .comes;
-        order = goes-up (c .place) (linesIn m) (c .in-order);
+        order = goes-up (c .when) (linesIn m) (c .in-order);
         no-first = c .no-first;
       }) in
-      record { place = g .place; after = g .from; by = g .by; given = g .given }
+      record { when = g .when; after = g .from; by = g .by; given = g .given }
 
   alone-at : (m : Message) → linesIn m ≡ 1 → (rest : List Arrival) (p : ℕ) (s : S) → AllOurs sent rest
       → (q : ℕ) → getElem? rest q ≡ some (line m 1) → getElem? (answersFrom does p s rest) q ≡ some (complete (m .payload) (m .fill))
@@ -270,4 +277,4 @@ module _ {S : Type 0} {does : ℕ → S → Arrival → Outcome S} {fresh : S} (
   alone-at m h (a ∷ rest) p s w (suc q) e = alone-at m h rest (suc p) (does p s a .after) (later-ours sent a rest w) q e
 
   pub delivery-alone : DeliveryAlone sent (answersFrom does 0 fresh)
-  delivery-alone arrivals u m h place e = alone-at m h arrivals 0 fresh u place e
+  delivery-alone arrivals u m h when e = alone-at m h arrivals 0 fresh u when e

@@ -7,18 +7,18 @@ use lib.ListN.{replicate}
 use Rattle.writer.specs.Message.{Message, Sendable, linesIn}
 use Rattle.delivery.specs.Delivery.{Arrival, Answer, unfinished, complete}
 use Rattle.delivery.specs.RoundTrip.{linesFrom, allLines, wholeAtLast}
-use Rattle.delivery.specs.Calls.{Outcome, answersFrom}
+use Rattle.delivery.specs.Calls.{Step, answersFrom}
 use Rattle.delivery.proofs.Lines.{some-lines}
 use Rattle.delivery.proofs.Reader.{Reader}
 
-module _ {S : Type 0} {does : ℕ → S → Arrival → Outcome S} {fresh : S} (reader : Reader does fresh) (m : Message) (s : Sendable m) where
+module _ {S : Type 0} {does : ℕ → S → Arrival → Step S} {fresh : S} (reader : Reader does fresh) (m : Message) (s : Sendable m) where
   abbrev whole : ℕ → List Answer
   whole k = replicate k unfinished ++ complete (m .payload) (m .fill) ∷ []
 
-  -- what a line that is taken, and those behind it, are answered
-  then-more : (p k : ℕ) (x : S) (i : ℕ) (o : Outcome S) → does p x (record { of = m; line = i }) ≡ o
+  -- what a line that is taken, and those after it, are answered
+  then-more : (p k : ℕ) (x : S) (i : ℕ) (o : Step S) → does p x (record { of = m; line = i }) ≡ o
       → answersFrom does p x (linesFrom m i (suc k)) ≡ o .answer ∷ answersFrom does (suc p) (o .after) (linesFrom m (i + 1) k)
-  then-more p k x i o e = ap (λ (q : Outcome S). q .answer ∷ answersFrom does (suc p) (q .after) (linesFrom m (i + 1) k)) e
+  then-more p k x i o e = ap (λ (q : Step S). q .answer ∷ answersFrom does (suc p) (q .after) (linesFrom m (i + 1) k)) e
 
   -- the lines that are left, with j held
   rest-read : (k p j : ℕ) → 1 ≤ j → j + suc k ≡ linesIn m → answersFrom does p (reader .held m j) (linesFrom m (j + 1) (suc k)) ≡ whole k

@@ -1,6 +1,6 @@
 pub mod Lines
 pub mod Reader
-pub mod Turns
+pub mod Effects
 pub mod Safe
 pub mod Delivered
 pub mod Numbered

@@ -23,10 +23,10 @@ said m i = sentenceOf (partsOf m i)
 
 -- what the record takes from a line of several, and from a single line
 abbrev pub fragment : Message → ℕ → Fragment
-fragment m i = record { total = linesIn m; number = i; id = Number.Of (m .number) }
+fragment m i = record { «num_fragments» = linesIn m; «fragment_number» = i; «message_id» = Number.Of (m .number) }
 
 abbrev pub single : Fragment
-single = record { total = 1; number = 1; id = Number.Absent }
+single = record { «num_fragments» = 1; «fragment_number» = 1; «message_id» = Number.Absent }
 
 module _ (m : Message) where
   pub some-lines : Sendable m → 1 ≤ linesIn m

@@ -47,12 +47,18 @@ module _ (q : Request) (d : List ℕ) (inside : outside q d ≡ false) where
   abbrev fill : ℕ
   fill = fillIn (q .count)
 
-  pub back : (out : List ℕ) (r : Unarmored) (out′ : List ℕ) → size (length payload) ≤ length out → Unarmors payload fill out r out′ → BitsBack (q .count) d r out′
+  pub back : (out : List ℕ) (r : Unarmored) (out′ : List ℕ) → size (length payload) ≤ length out
+      → Unarmors payload fill out r out′ → BitsBack (q .count) d r out′
   back out r out′ h u = record {
     bytes = size (length payload);
     told = same .0;
     enough = omega (arith, long);
-    bits = λ i. rw (same .1, take-at (unarmored payload fill) (drop (length (unarmored payload fill)) out) (size (length payload)) (unarmored-length payload fill)) (bits-back d (q .count) i);
+    bits = λ i.
+        rw (
+          same .1,
+          take-at (unarmored payload fill) (drop (length (unarmored payload fill)) out) (size (length payload)) (unarmored-length payload fill),
+        )
+        (bits-back d (q .count) i);
   }
     where
       s : Sendable (messageOf q d)
@@ -62,10 +68,14 @@ module _ (q : Request) (d : List ℕ) (inside : outside q d ≡ false) where
       long = length-armoured d (q .count)
 
       says : answerOf payload fill (length out) ≡ taken (size (length payload))
-      says = says-taken payload fill (length out) (fill-some payload fill (s .fill-small) (λ e. omega (arith, s .some-payload))) (s .fits) h (omega (arith, armoured-good d (q .count)))
+      says =
+          says-taken payload fill (length out) (fill-some payload fill (s .fill-small) (λ e. omega (arith, s .some-payload))) (s .fits) h
+          (omega (arith, armoured-good d (q .count)))
 
       same : (r ≡ Unarmored.Bytes (size (length payload))) × (out′ ≡ over (unarmored payload fill) out)
-      same = unique payload fill out r (Unarmored.Bytes (size (length payload))) out′ (over (unarmored payload fill) out) u (answered-by payload fill out (taken (size (length payload))) says refl refl)
+      same =
+          unique payload fill out r (Unarmored.Bytes (size (length payload))) out′ (over (unarmored payload fill) out) u
+          (answered-by payload fill out (taken (size (length payload))) says refl refl)
 
 pub round-trip-holds : RoundTrip
 round-trip-holds = record {

@@ -13,11 +13,11 @@ use borrow.Author.Tests.{ltb-true, eqb-true}
 use Rattle.refusal.specs.Words.{pick}
 use Rattle.writer.specs.Message.{Message, linesIn}
 use Rattle.delivery.specs.Delivery.{Arrival, Answer, unfinished, complete, AllOurs, Ours, numberOn, firstOfSeveral, orElse, newest, NoMixing, Safety}
-use Rattle.delivery.specs.Calls.{Outcome, answersFrom}
+use Rattle.delivery.specs.Calls.{Step, answersFrom}
 use Rattle.delivery.proofs.Lines.{number-several}
 use Rattle.delivery.proofs.Reader.{Reader, gives}
-use Rattle.delivery.proofs.Turns as turns
-use Rattle.delivery.proofs.Turns.{Fine, AllSendable, Turn, its-turn, stays}
+use Rattle.delivery.proofs.Effects as effects
+use Rattle.delivery.proofs.Effects.{Fine, AllSendable, Effect, joins, stays}
 
 -- one arrival more is the newest if it is a first of several
 orElse-pick : (b : Bool) (a : Arrival) (x y : Option Arrival) → orElse (pick b (some a) x) y ≡ pick b (some a) (orElse x y)
@@ -41,7 +41,7 @@ Fits o a = (f : Arrival) → o ≡ some f → a .line ≢ 1 → numberOn a ≡ n
 pub later-ours : (sent : List Message) (a : Arrival) (later : List Arrival) → AllOurs sent (a ∷ later) → AllOurs sent later
 later-ours sent a later w b h = w b (List·Memᴰ·tail h)
 
-module _ {S : Type 0} {does : ℕ → S → Arrival → Outcome S} {fresh : S} (reader : Reader does fresh) (sent : List Message) (sendable : AllSendable sent) where
+module _ {S : Type 0} {does : ℕ → S → Arrival → Step S} {fresh : S} (reader : Reader does fresh) (sent : List Message) (sendable : AllSendable sent) where
   -- the state in which the first j lines of the message of the newest first line f are held
   record Holding (f : Arrival) (s : S) : Type 0 where
     several : 1 < linesIn (f .of)
@@ -73,9 +73,11 @@ module _ {S : Type 0} {does : ℕ → S → Arrival → Outcome S} {fresh : S} (
   -- any other arrival leaves the state as it is or joins
   idle : (o : Option Arrival) (p : ℕ) (s : S) (a : Arrival) → Good o s → Ours sent a → Fits o a → firstOfSeveral a ≡ false → Kept o p s a
   idle none p s a g w fits e =
-      rw g (let t = turns.turn-fresh reader sent sendable p a w e in kept-by none p fresh fresh a (t .says) (t .is) refl (t .fine))
+      rw g (let t = effects.effect-fresh reader sent sendable p a w e in kept-by none p fresh fresh a (t .says) (t .is) refl (t .fine))
   idle (some f) p s a g w fits e =
-      rw (g .is) (go (turns.turn reader sent sendable p (f .of) (g .several) (g .j) a w e (λ d q. fits f refl d (q ∙ sym (number-several (f .of) (f .line) (g .several))))))
+      rw (g .is)
+      (go (effects.effect reader sent sendable p (f .of) (g .several) (g .j) a w e
+      (λ d q. fits f refl d (q ∙ sym (number-several (f .of) (f .line) (g .several))))))
     where
       now : S
       now = reader .held (f .of) (g .j)
@@ -83,9 +85,9 @@ module _ {S : Type 0} {does : ℕ → S → Arrival → Outcome S} {fresh : S} (
       held : (i : ℕ) → 1 ≤ i → Holding f (reader .held (f .of) i)
       held i h = record { several = g .several; j = i; from-one = h; is = refl }
 
-      go : Turn reader sent sendable p (f .of) (g .several) (g .j) a → Kept (some f) p now a
-      go (its-turn q l) =
-          let t = turns.advance reader sent sendable p (f .of) (g .j) (g .from-one) a w q l in
+      go : Effect reader sent sendable p (f .of) (g .several) (g .j) a → Kept (some f) p now a
+      go (joins q l) =
+          let t = effects.advance reader sent sendable p (f .of) (g .j) (g .from-one) a w q l in
           kept-by (some f) p now (reader .held (f .of) (g .j + 1)) a (t .says) (t .is) (held (g .j + 1) (omega arith)) (t .fine)
       go (stays n t) = kept-by (some f) p now now a (t .says) (t .is) (held (g .j) (g .from-one)) (t .fine)
 
@@ -97,14 +99,14 @@ module _ {S : Type 0} {does : ℕ → S → Arrival → Outcome S} {fresh : S} (
       go false e = idle o p s a g w fits e
 
   safe-from : (before rest : List Arrival) (p : ℕ) (s : S) → AllOurs sent rest → NoMixing (before ++ rest) → Good (newest before) s
-      → (place : ℕ) (x : Answer) → getElem? (answersFrom does p s rest) place ≡ some x → Fine sent x
-  safe-from before [] p s w n g place x e = absurd (Option·none-ne-some x e)
+      → (when : ℕ) (x : Answer) → getElem? (answersFrom does p s rest) when ≡ some x → Fine sent x
+  safe-from before [] p s w n g when x e = absurd (Option·none-ne-some x e)
   safe-from before (a ∷ later) p s w n g zero x e =
       subst (Fine sent) (Option·some-inj .0 e) ((kept (newest before) p s a g (w a (List·Memᴰ·head refl)) (λ f q. n before later a f refl q)) .fine)
-  safe-from before (a ∷ later) p s w n g (suc place) x e =
+  safe-from before (a ∷ later) p s w n g (suc when) x e =
       safe-from (before ++ a ∷ []) later (suc p) (does p s a .after) (later-ours sent a later w) (rw append-snoc n)
-      (rw newest-snoc ((kept (newest before) p s a g (w a (List·Memᴰ·head refl)) (λ f q. n before later a f refl q)) .good)) place x e
+      (rw newest-snoc ((kept (newest before) p s a g (w a (List·Memᴰ·head refl)) (λ f q. n before later a f refl q)) .good)) when x e
 
   pub safety : Safety sent (answersFrom does 0 fresh)
-  safety arrivals u place payload fill e =
-      safe-from [] arrivals 0 fresh (u .ours) (u .no-mixing) refl place (complete payload fill) e
+  safety arrivals u when payload fill e =
+      safe-from [] arrivals 0 fresh (u .ours) (u .no-mixing) refl when (complete payload fill) e

@@ -6,6 +6,7 @@ use mathlib.Core.List.{List, [], _∷_, map}
 use lib.ListN.{length, take}
 use Rattle.refusal.specs.Words.{Told}
 use Rattle.answer.specs.Answer.{Progress}
+use Rattle.answer.specs.declared.Decode.{Decode}
 use Rattle.ais.specs.Call.{Called, calledOf}
 use Rattle.reassembly.specs.Record.{freshRecord}
 use Rattle.reassembly.specs.declared.Record.{Record}
@@ -16,12 +17,12 @@ use Rattle.delivery.specs.Delivery.{Arrival, AllOurs, Answer, refused, u
 
 -- ---- runs
 -- what a line does to a state: its answer, and the state after it
-pub record Outcome (S : Type 0) : Type 0 where
+pub record Step (S : Type 0) : Type 0 where
   pub answer : Answer
   pub after : S
 
 -- the answers from a state on, where `does p s a` is what the arrival a does to the state s as the call number p
-abbrev pub answersFrom : {S : Type 0} → (ℕ → S → Arrival → Outcome S) → ℕ → S → List Arrival → List Answer
+abbrev pub answersFrom : {S : Type 0} → (ℕ → S → Arrival → Step S) → ℕ → S → List Arrival → List Answer
 answersFrom does p s [] = []
 answersFrom does p s (a ∷ later) = does p s a .answer ∷ answersFrom does (suc p) (does p s a .after) later
 
@@ -44,9 +45,9 @@ abbrev pub answerIn : Called → Answer
 answerIn c = answerBy (c .told) (take (c .sentence .«payload_len») (c .payload)) (c .sentence .«fill_bit_count»)
 
 -- a call "with decoding off" on the text of the line that arrives, with the buffers lent at it
-unfoldable pub onCall : (ℕ → Lent) → ℕ → Record → Arrival → Outcome Record
+unfoldable pub onCall : (ℕ → Lent) → ℕ → Record → Arrival → Step Record
 onCall lent p r a =
-    let c = calledOf r (textOf (a .of) (a .line)) false (lent p .payload) (lent p .bits) in
+    let c = calledOf r (textOf (a .of) (a .line)) Decode.Off (lent p .payload) (lent p .bits) in
     record { answer = answerIn c; after = c .after }
 
 -- "Let a fresh record receive .."
@@ -73,4 +74,5 @@ pub record Demand3 : Type 0 where
   -- beside it: a message of a single line is handed out whenever its line arrives
   pub alone : (requests : List Accepted) (lent : ℕ → Lent) → DeliveryAlone (map messageIn requests) (callRun lent)
   -- and the premise holds of every order of arrival if the messages sent differ in number
-  pub numbered : (requests : List Accepted) (arrivals : List Arrival) → Numbered (map messageIn requests) → AllOurs (map messageIn requests) arrivals → NoMixing arrivals
+  pub numbered : (requests : List Accepted) (arrivals : List Arrival) → Numbered (map messageIn requests) → AllOurs (map messageIn requests) arrivals
+      → NoMixing arrivals

@@ -56,7 +56,8 @@ abbrev pub newest : List Arrival → Option Arrival
 newest [] = none
 newest (a ∷ later) = orElse (newest later) (pick (firstOfSeveral a) (some a) none)
 
--- THE PREMISE: "no line but a first one arrives whose message number equals that of the newest first line (of several lines) while belonging to another message".
+-- THE PREMISE: "no line but a first one arrives whose message number equals that of the newest first line (of several lines) while belonging to another
+-- message".
 -- Two messages that agree in all that is written of them count as one, which only widens what may arrive
 abbrev pub NoMixing : List Arrival → Type 0
 NoMixing arrivals =
@@ -84,39 +85,39 @@ pub record WasSent (sent : List Message) (payload : List ℕ) (fill : ℕ) : Typ
 abbrev pub Safety : List Message → Run → Type 0
 Safety sent run =
     (arrivals : List Arrival) → Supposed sent arrivals
-    → (place : ℕ) (payload : List ℕ) (fill : ℕ) → getElem? (run arrivals) place ≡ some (complete payload fill)
+    → (when : ℕ) (payload : List ℕ) (fill : ℕ) → getElem? (run arrivals) when ≡ some (complete payload fill)
     → WasSent sent payload fill
 
 -- ---- the second half
--- the lines of m "come in order, whatever else lies between", line i at `place i`;
+-- the lines of m "come in order, whatever else lies between", line i at `when i`;
 -- "no first line of several comes after its first and before its last"
 pub record InOrder (arrivals : List Arrival) (m : Message) : Type 0 where
-  pub place : ℕ → ℕ
-  pub comes : (i : ℕ) → 1 ≤ i → i ≤ linesIn m → getElem? arrivals (place i) ≡ some (record { of = m; line = i })
-  pub in-order : (i : ℕ) → 1 ≤ i → i < linesIn m → place i < place (i + 1)
-  pub no-first : (q : ℕ) (a : Arrival) → place 1 < q → q < place (linesIn m) → getElem? arrivals q ≡ some a → firstOfSeveral a ≡ false
+  pub when : ℕ → ℕ
+  pub comes : (i : ℕ) → 1 ≤ i → i ≤ linesIn m → getElem? arrivals (when i) ≡ some (record { of = m; line = i })
+  pub in-order : (i : ℕ) → 1 ≤ i → i < linesIn m → when i < when (i + 1)
+  pub no-first : (q : ℕ) (a : Arrival) → when 1 < q → q < when (linesIn m) → getElem? arrivals q ≡ some a → firstOfSeveral a ≡ false
 
 -- the whole payload of m and its fill are handed out, after the place `from` and by the place `to`
 pub record HandedOut (run : Run) (arrivals : List Arrival) (m : Message) (from to : ℕ) : Type 0 where
-  pub place : ℕ
-  pub after : from < place
-  pub by : place ≤ to
-  pub given : getElem? (run arrivals) place ≡ some (complete (m .payload) (m .fill))
+  pub when : ℕ
+  pub after : from < when
+  pub by : when ≤ to
+  pub given : getElem? (run arrivals) when ≡ some (complete (m .payload) (m .fill))
 
 -- "Under the same premise a message of several lines is handed out if its lines come in order, whatever else lies between,
 -- provided no first line of several comes after its first and before its last."
 abbrev pub Delivery : List Message → Run → Type 0
 Delivery sent run =
     (arrivals : List Arrival) → Supposed sent arrivals
-    → (m : Message) → 1 < linesIn m → (c : InOrder arrivals m) → HandedOut run arrivals m (c .place 1) (c .place (linesIn m))
+    → (m : Message) → 1 < linesIn m → (c : InOrder arrivals m) → HandedOut run arrivals m (c .when 1) (c .when (linesIn m))
 
 -- ---- what is proved beside it
 -- a message of a single line is handed out whenever its line arrives, with no premise
 abbrev pub DeliveryAlone : List Message → Run → Type 0
 DeliveryAlone sent run =
     (arrivals : List Arrival) → AllOurs sent arrivals
-    → (m : Message) → linesIn m ≡ 1 → (place : ℕ) → getElem? arrivals place ≡ some (record { of = m; line = 1 })
-    → getElem? (run arrivals) place ≡ some (complete (m .payload) (m .fill))
+    → (m : Message) → linesIn m ≡ 1 → (when : ℕ) → getElem? arrivals when ≡ some (record { of = m; line = 1 })
+    → getElem? (run arrivals) when ≡ some (complete (m .payload) (m .fill))
 
 -- the messages sent differ in their numbers
 abbrev pub Numbered : List Message → Type 0

@@ -40,13 +40,15 @@ pub record BitsBack (n : ℕ) (d : List ℕ) (r : Unarmored) (out : List ℕ) : 
   pub enough : n ≤ bytes * 8
   pub bits : (i : ℕ) → bitAt 8 (take bytes out) i ≡ cut n (bitAt 8 d) i
 
--- a request that is read back: its lines "read in order into a fresh record with decoding off", none of them refused, the last one hands out a payload and a fill;
+-- a request that is read back: its lines "read in order into a fresh record with decoding off", none of them refused, the last one hands out a payload and
+-- a fill;
 -- "then unarmored with the fill handed out", into an output with room, "the lines give back the bits"
 pub record ReadBack (a : Accepted) (lent : ℕ → Lent) : Type 0 where
   pub payload : List ℕ
   pub fill : ℕ
   pub read : callRun lent (allLines (messageIn a)) ≡ wholeAtLast (messageIn a) payload fill
-  pub back : (out : List ℕ) (r : Unarmored) (out′ : List ℕ) → size (length payload) ≤ length out → Unarmors payload fill out r out′ → BitsBack (a .request .count) (a .bytes) r out′
+  pub back : (out : List ℕ) (r : Unarmored) (out′ : List ℕ) → size (length payload) ≤ length out → Unarmors payload fill out r out′
+      → BitsBack (a .request .count) (a .bytes) r out′
 
 -- THE ROUND TRIP: what the writer writes are the lines of a request within its limits, and every such request is read back, whatever buffers are lent
 pub record RoundTrip : Type 0 where

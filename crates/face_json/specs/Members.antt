@@ -12,7 +12,7 @@ words w = row always (ascii w) nothing ∷ []
 abbrev pub wordsIf : Test → String → List Row
 wordsIf t w = row t (ascii w) nothing ∷ []
 
--- a value behind words, where a test holds
+-- a value after words, where a test holds
 abbrev pub valueIf : Test → String → Value → List Row
 valueIf t w v = row t (ascii w) v ∷ []
 

@@ -1,5 +1,5 @@
 -- Messages as JSON objects, by gpsd's names: the members of the AIVDM description's tables in their order. What is absent is null; speeds, courses and
--- positions are written from the number as sent, the raw number behind each.
+-- positions are written from the number as sent, the raw number after each.
 use mathlib.Core.List.{List, _++_}
 use Rattle.face_rows.specs.Rows.{is, number, signed, tenths, degrees, quoted, Row, group}
 use Rattle.face_rows.specs.Places.{type, repeat, mmsi, status, turnThere, turn, speedThere, speedRaw, accuracy, longitudeThere, longitudeRaw}

@@ -12,14 +12,14 @@ testIn test place n =
     pick (eqb test 1) (is place n)
     (pick (eqb test 2) (isNot place n) (pick (eqb test 3) (least place n) (pick (eqb test 4) (below place n) always)))
 
--- the value of kind K, at QQ, a text's bytes from RR on
+-- the value of form K, at QQ, a text's bytes from RR on
 abbrev pub valueIn : ℕ → ℕ → ℕ → Value
-valueIn kind one two =
-    pick (eqb kind 1) (number one)
-    (pick (eqb kind 2) (signed one)
-    (pick (eqb kind 3) (tenths one)
-    (pick (eqb kind 4) (degrees one)
-    (pick (eqb kind 5) (quoted one two) (pick (eqb kind 6) (hexed one two) (pick (eqb kind 7) (pattern one) nothing))))))
+valueIn form one two =
+    pick (eqb form 1) (number one)
+    (pick (eqb form 2) (signed one)
+    (pick (eqb form 3) (tenths one)
+    (pick (eqb form 4) (degrees one)
+    (pick (eqb form 5) (quoted one two) (pick (eqb form 6) (hexed one two) (pick (eqb form 7) (pattern one) nothing))))))
 
 -- the word of LL bytes from FFF on
 abbrev pub wordIn : List ℕ → ℕ → List ℕ

@@ -1,5 +1,5 @@
--- A face of an answer: a table of rows over the answer's layout, its numbers and its bytes of text. A row is a word and a value behind it, put where a
--- test of one number holds; rows behind it may depend on its test too. A place beyond the layout holds 0.
+-- A face of an answer: a table of rows over the answer's layout, its numbers and its bytes of text. A row is a word and a value after it, put where a
+-- test of one number holds; rows after it may depend on its test too. A place beyond the layout holds 0.
 use Prim.Native.Nat.{ℕ, zero, suc, _%_, _^_}
 use mathlib.Core.Bool.{Bool, true, not}
 use mathlib.Core.List.{List, [], _∷_, _++_}
@@ -66,7 +66,7 @@ valueText numbers texts (pattern place) = wordOf (getD numbers place 0 % 2 ^ 32)
 abbrev pub rowText : List ℕ → List ℕ → Row → List ℕ
 rowText numbers texts r = r .word ++ valueText numbers texts (r .value)
 
--- the rows one behind the other, but for the first k: where a test does not hold, its row and those that depend on it are left out
+-- the rows one after the other, but for the first k: where a test does not hold, its row and those that depend on it are left out
 unfoldable pub printedFrom : ℕ → List Row → List ℕ → List ℕ → List ℕ
 printedFrom k [] numbers texts = []
 printedFrom zero (r ∷ rows) numbers texts =

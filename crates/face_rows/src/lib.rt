@@ -1,13 +1,13 @@
-// A face of an answer: rows of a table, each a word and a value of the answer's layout, put one behind the other.
-// A row is a number, in hex S_T_VV_PP_K_QQ_RR_FFF_LL: the test T of number PP against VV, and how many rows S behind this one depend on it too,
-// the value's kind K and its places QQ and RR, and the word's start FFF and length LL among the table's words.
+// A face of an answer: rows of a table, each a word and a value of the answer's layout, put one after the other.
+// A row is a number, in hex S_T_VV_PP_K_QQ_RR_FFF_LL: the test T of number PP against VV, and how many rows S after this one depend on it too,
+// the value's form K and its places QQ and RR, and the word's start FFF and length LL among the table's words.
 ghost use mathlib.Core.Path.{_≡_};
 ghost use lib.ListN.{getD, take, drop};
 ghost use Rattle.text_out.specs.Text.{text, put};
 ghost use Rattle.face_rows.specs.Rows.{holds, valueText, rowText, printed};
 ghost use Rattle.face_rows.specs.Code.{testOf, valueIn, rowIn, rowsIn};
 
-// The rows of a table. Where a row's test does not hold, it is left out, and so are as many rows behind it as it says.
+// The rows of a table. Where a row's test does not hold, it is left out, and so are as many rows after it as it says.
 pub fn put_rows(
     out: &mut [u8],
     at: usize,
@@ -47,11 +47,11 @@ fn put_row(
 {
     let from = (row / 0x100 % 4096) as usize;
     let len = (row % 256) as usize;
-    let kind = row / 0x10_0000_0000 % 16;
+    let form = row / 0x10_0000_0000 % 16;
     let one = (row / 0x1000_0000 % 256) as usize;
     let two = (row / 0x10_0000 % 256) as usize;
     let a = text_out::put_bytes(out, at, part(words, from, len));
-    put_value(out, a, kind, one, two, numbers, texts)
+    put_value(out, a, form, one, two, numbers, texts)
 }
 
 // Whether a row's test holds.
@@ -71,21 +71,21 @@ fn holds(numbers: &[u64], row: u64) -> bool
     }
 }
 
-// A value: of a kind, from a place, with a second place for a text's start.
+// A value: of a form, from a place, with a second place for a text's start.
 fn put_value(
     out: &mut [u8],
     at: usize,
-    kind: u64,
+    form: u64,
     one: usize,
     two: usize,
     numbers: &[u64],
     texts: &[u8],
 ) -> usize
     ensures { λ r. ⌜ text r (now (out .exit))
-        ≡ put (text at (now (out .entry))) (valueText (now (numbers .entry)) (now (texts .entry)) (valueIn kind one two)) ⌝ }
+        ≡ put (text at (now (out .entry))) (valueText (now (numbers .entry)) (now (texts .entry)) (valueIn form one two)) ⌝ }
 {
     let n = number_at(numbers, one);
-    match kind {
+    match form {
         1 => text_out::put_decimal(out, at, n),
         2 => face_values::put_signed(out, at, n),
         3 => face_values::put_tenths(out, at, n),

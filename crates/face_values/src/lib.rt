@@ -60,7 +60,7 @@ fn rounded(m: u64) -> u64
     (m % 4294967296 * 5 + 1) / 3
 }
 
-// A count of millionths: a point, and six digits behind it.
+// A count of millionths: a point, and six digits after it.
 fn put_fixed(out: &mut [u8], at: usize, n: u64) -> usize
     ensures { λ r. ⌜ text r (now (out .exit)) ≡ put (text at (now (out .entry))) (fixed n) ⌝ }
 {

@@ -1,11 +1,11 @@
--- Rows for words of the comparing protocol. "Words are separated by one space": each value stands behind its space.
+-- Rows for words of the comparing protocol. "Words are separated by one space": each value stands after its space.
 use Prim.Native.Nat.{ℕ}
 use Prim.Native.String.{String}
 use mathlib.Core.List.{List, [], _∷_}
 use Rattle.text_out.specs.Text.{ascii}
 use Rattle.face_rows.specs.Rows.{Test, always, is, isNot, Value, nothing, number, Row, row}
 
--- words, words where a test holds, and a value behind words
+-- words, words where a test holds, and a value after words
 abbrev pub words : String → List Row
 words w = row always (ascii w) nothing ∷ []
 

@@ -172,14 +172,14 @@ pub struct Interrogation {
 }
 
 // Taken, or refused with 9: the message ends inside a needed field.
-pub enum Outcome {
+pub enum Ending {
     Taken,
     Short,
 }
 
 // The answer. Where it is refused the interrogation is zero and absent.
 pub struct Interrogated {
-    pub outcome: Outcome,
+    pub outcome: Ending,
     pub interrogation: Interrogation,
 }
 
@@ -204,7 +204,7 @@ fn refused() -> Interrogated
 {
     let interrogation = no_interrogation();
     Interrogated {
-        outcome: Outcome::Short,
+        outcome: Ending::Short,
         interrogation,
     }
 }
@@ -224,7 +224,7 @@ fn taken(bytes: &[u8], stations: [Station; 2], count: u8) -> Interrogated
         count,
     };
     Interrogated {
-        outcome: Outcome::Taken,
+        outcome: Ending::Taken,
         interrogation,
     }
 }

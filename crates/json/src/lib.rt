@@ -1,5 +1,6 @@
 // What a line of the input is answered with, as a line of JSON: an object for a complete message or for a refused line, and nothing for an unfinished one.
 use answer::Answer;
+use answer::Decode;
 use reassembly::Record;
 ghost use mathlib.Core.Path.{_≡_};
 ghost use Rattle.text_out.specs.Text.{text, put};
@@ -66,7 +67,7 @@ fn following(number: u64) -> u64
     }
 }
 
-// The record after a line, and the place behind what was put for it.
+// The record after a line, and the place after what was put for it.
 struct Next {
     pub state: Record,
     pub at: usize,
@@ -78,12 +79,12 @@ fn tell(state: Record, number: u64, line: &[u8], out: &mut [u8], at: usize) -> N
 {
     let mut payload = [0u8; 384];
     let mut bits = [0u8; 288];
-    let s = reader::turn(state, line, true, &mut payload, &mut bits);
-    let behind = put_answer(out, at, number, s.answer, &bits);
+    let s = reader::call(state, line, Decode::On, &mut payload, &mut bits);
+    let end = put_answer(out, at, number, s.answer, &bits);
     let after = s.state;
     Next {
         state: after,
-        at: behind,
+        at: end,
     }
 }
 

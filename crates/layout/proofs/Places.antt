@@ -24,11 +24,11 @@ use Rattle.static_data_report.specs.declared.Texts.{Texts}
 use Rattle.interrogation.specs.Interrogation.{noMessage, noStation}
 use Rattle.interrogation.specs.declared.Interrogation.{Interrogation}
 use Rattle.messages.specs.declared.AisMessage.{AisMessage}
-use Rattle.sentence_numbers.specs.Sentence.{codeOf, valueCount, talkerNumber, reportNumber, idIn, channelIn, typeIn}
-use Rattle.position_numbers.specs.Position.{wordOf, flagOf, readingIn, turnIn, headingIn, directionNumber}
-use Rattle.message_numbers.specs.Asked.{offsetIn}
-use Rattle.answer_numbers.specs.Answer.{answerNumbers}
-use Rattle.answer_numbers.proofs.Counts.{answer-length}
+use Rattle.layout_answer.specs.Sentence.{codeOf, valueCount, talkerNumber, reportNumber, idIn, channelIn, typeIn}
+use Rattle.layout_position.specs.Position.{wordOf, flagOf, readingIn, turnIn, headingIn, directionNumber}
+use Rattle.layout_message.specs.Asked.{offsetIn}
+use Rattle.layout_answer.specs.Answer.{answerNumbers}
+use Rattle.layout_answer.proofs.Counts.{answer-length}
 use Rattle.face_rows.specs.Places as at
 use Rattle.layout.specs.declared.Layout.{Layout}
 use Rattle.layout.specs.Layout.{layoutBy, layoutOf}
@@ -210,35 +210,35 @@ module _ (s : Sentence) (texts : Texts) (asked : Interrogation) (line radio : �
     abbrev bytes : List ℕ
     bytes = of (AisMessage.StaticDataReport r) .texts
 
-    behind-name : drop 20 bytes ≡ texts .«vendor_id» .bytes ++ (texts .«model_serial» .bytes ++ texts .callsign .bytes)
-    behind-name = drop-at (texts .«vessel_name» .bytes) _ 20 a
+    after-name : drop 20 bytes ≡ texts .«vendor_id» .bytes ++ (texts .«model_serial» .bytes ++ texts .callsign .bytes)
+    after-name = drop-at (texts .«vessel_name» .bytes) _ 20 a
 
-    behind-vendor : drop 40 bytes ≡ texts .«model_serial» .bytes ++ texts .callsign .bytes
-    behind-vendor = sym (drop-drop 20 20 bytes) ∙ ap (drop 20) behind-name ∙ drop-at (texts .«vendor_id» .bytes) _ 20 b
+    after-vendor : drop 40 bytes ≡ texts .«model_serial» .bytes ++ texts .callsign .bytes
+    after-vendor = sym (drop-drop 20 20 bytes) ∙ ap (drop 20) after-name ∙ drop-at (texts .«vendor_id» .bytes) _ 20 b
 
-    behind-model : drop 60 bytes ≡ texts .callsign .bytes
-    behind-model = sym (drop-drop 20 40 bytes) ∙ ap (drop 20) behind-vendor ∙ drop-at (texts .«model_serial» .bytes) _ 20 c
+    after-model : drop 60 bytes ≡ texts .callsign .bytes
+    after-model = sym (drop-drop 20 40 bytes) ∙ ap (drop 20) after-vendor ∙ drop-at (texts .«model_serial» .bytes) _ 20 c
 
     pub name-starts : take 20 (drop at.nameStart bytes) ≡ texts .«vessel_name» .bytes
     name-starts = take-at (texts .«vessel_name» .bytes) _ 20 a
 
     pub vendor-starts : take 20 (drop at.vendorStart bytes) ≡ texts .«vendor_id» .bytes
-    vendor-starts = ap (take 20) behind-name ∙ take-at (texts .«vendor_id» .bytes) _ 20 b
+    vendor-starts = ap (take 20) after-name ∙ take-at (texts .«vendor_id» .bytes) _ 20 b
 
     pub model-starts : take 20 (drop at.modelTextStart bytes) ≡ texts .«model_serial» .bytes
-    model-starts = ap (take 20) behind-vendor ∙ take-at (texts .«model_serial» .bytes) _ 20 c
+    model-starts = ap (take 20) after-vendor ∙ take-at (texts .«model_serial» .bytes) _ 20 c
 
     pub callsign-starts : take 20 (drop at.callsignStart bytes) ≡ texts .callsign .bytes
-    callsign-starts = ap (take 20) behind-model ∙ take-all 20 (texts .callsign .bytes) (omega arith)
+    callsign-starts = ap (take 20) after-model ∙ take-all 20 (texts .callsign .bytes) (omega arith)
 
--- behind the fifty, of any answer
+-- after the fifty, of any answer
 module _ (a : Answer) (line radio : ℕ) where
   pub rest-stands : Stand (layoutOf a line radio)
       ((at.line, line) ∷ (at.radio, radio) ∷ (at.code, codeOf (outcomeIn (a .outcome))) ∷ (at.valueCount, valueCount (outcomeIn (a .outcome))) ∷ [])
-  rest-stands = rw (behind 0, behind 1, behind 2, behind 3)
+  rest-stands = rw (after 0, after 1, after 2, after 3)
     where
       more : List ℕ
       more = line ∷ radio ∷ codeOf (outcomeIn (a .outcome)) ∷ valueCount (outcomeIn (a .outcome)) ∷ []
 
-      behind : (n : ℕ) → getD (answerNumbers a ++ more) (50 + n) 0 ≡ getD more n 0
-      behind n = rw (answer-length a) at (getD-append-add (answerNumbers a) more n 0)
+      after : (n : ℕ) → getD (answerNumbers a ++ more) (50 + n) 0 ≡ getD more n 0
+      after n = rw (answer-length a) at (getD-append-add (answerNumbers a) more n 0)

@@ -29,7 +29,8 @@ collect-on m strip n block from buf l = go (ltb (length buf) m) (ltb (length (un
 
     go : (q r : Bool)
         → from < nextOf
-        ((pick q (record { len = n; event = Room; line = buf }) (pick r (atLF m strip h (from + length (untilLF (drop from block)) + 1) buf) (atEnd m h buf))) .event)
+        ((pick q (record { len = n; event = Room; line = buf })
+        (pick r (atLF m strip h (from + length (untilLF (drop from block)) + 1) buf) (atEnd m h buf))) .event)
         (length block)
     go true r = l
     go false true = event-on m strip h from (length block) (from + length (untilLF (drop from block)) + 1) (omega arith)

@@ -39,7 +39,8 @@ module _ (m n : ℕ) (buf : List ℕ) (room : m ≤ length buf) where
       go (yes e) =
           let z : n - 1 ≡ m = omega arith in
           let b : getD (heldOf m n buf) (n - 1) 0 ≡ 13 =
-          ap (λ (t : List ℕ). getD t (n - 1) 0) (held-return m n buf room e) ∙ ap (λ (i : ℕ). getD (take m buf ++ 13 ∷ []) i 0) z ∙ getD-at (take m buf) 13 [] 0 m full in
+          ap (λ (t : List ℕ). getD t (n - 1) 0) (held-return m n buf room e) ∙ ap (λ (i : ℕ). getD (take m buf ++ 13 ∷ []) i 0) z
+          ∙ getD-at (take m buf) 13 [] 0 m full in
           rw (held-length m n buf room few, eq-eqb n (m + 1) e, b)
       go (no d) =
           let z : n - 1 ≡ length (take m buf) + 1 = omega (arith, full) in

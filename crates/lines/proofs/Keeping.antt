@@ -1,4 +1,4 @@
--- What a collector keeps of a line is all that counts: whatever comes behind it, the line kept and the line itself end alike.
+-- What a collector keeps of a line is all that counts: whatever comes after it, the line kept and the line itself end alike.
 -- Assumes nothing.
 use Prim.Native.Nat.{ℕ, suc, _+_, _-_, _≤_, _<_, min}
 use native.Mathlib.Omega.{arith}
@@ -8,7 +8,8 @@ use mathlib.Core.Path.{_≡_, refl, sym, ap, _∙_}
 use mathlib.Core.Bool.{Bool, true, false, _&&_}
 use mathlib.Core.List.{List, [], _∷_, _++_, append-assoc, append-nil}
 use lib.ListN.{length, getD, take, drop, set, length-append, length-take, length-drop, take-append-drop}
-use lib.Seq.{take-all, length-take-le, take-append-le, take-append-seam, take-append-add, take-at, take-suc, take-take, drop-append-add, drop-drop, getD-at, set-split}
+use lib.Seq.{take-all, length-take-le, take-append-le, take-append-seam, take-append-add, take-at}
+use lib.Seq.{take-suc, take-take, drop-append-add, drop-drop, getD-at, set-split}
 use lib.Dec.{eqb, leb}
 use borrow.Author.Tests.{eq-eqb, ne-eqb, le-leb, lt-leb, leb-true, leb-false, eqb-true}
 use Rattle.refusal.specs.Words.{pick}
@@ -80,7 +81,7 @@ module _ (m : ℕ) (h : List ℕ) where
     no-cr = λ e d. omega (arith, o .more, simp length-append at e);
   }
 
--- two lines that end alike, whatever comes behind them
+-- two lines that end alike, whatever comes after them
 pub data Alike (m : ℕ) (g h : List ℕ) : Type 0 where
   same : g ≡ h → Alike m g h
   overs : take m g ≡ take m h → Over m g → Over m h → Alike m g h
@@ -113,7 +114,7 @@ module _ (m : ℕ) (h buf : List ℕ) (room : m ≤ length buf) where
   unfolding keep
   keep-length = simp (length-append, length-drop, length-take) (omega arith)
 
-  -- bytes behind h are kept as if h had not been kept before
+  -- bytes after h are kept as if h had not been kept before
   pub keep-more : (p : List ℕ) → keep m (h ++ p) (keep m h buf) ≡ keep m (h ++ p) buf
   unfolding keep
   keep-more p =
@@ -121,7 +122,8 @@ module _ (m : ℕ) (h buf : List ℕ) (room : m ≤ length buf) where
       let k : ℕ = length (take m (h ++ p)) in
       let e : k ≡ l + (k - l) = omega (arith, length-take m h, length-take m (h ++ p), length-append h p) in
       ap (λ (t : List ℕ). take m (h ++ p) ++ t)
-      (ap (λ (i : ℕ). drop i (take m h ++ drop l buf)) e ∙ drop-append-add (take m h) (drop l buf) (k - l) ∙ drop-drop (k - l) l buf ∙ ap (λ (i : ℕ). drop i buf) (sym e))
+      (ap (λ (i : ℕ). drop i (take m h ++ drop l buf)) e ∙ drop-append-add (take m h) (drop l buf) (k - l) ∙ drop-drop (k - l) l buf
+      ∙ ap (λ (i : ℕ). drop i buf) (sym e))
 
   pub kept-holds : Holds m h (countOf m h) (keep m h buf)
   kept-holds = record {
@@ -232,7 +234,7 @@ module _ (m n : ℕ) (buf : List ℕ) (room : m ≤ length buf) (few : n ≤ m +
             room = room;
           }
 
--- one byte more: it is stored while there is room, a CR behind m bytes is remembered, anything else there is too long
+-- one byte more: it is stored while there is room, a CR after m bytes is remembered, anything else there is too long
 module _ (m n : ℕ) (buf : List ℕ) (room : m ≤ length buf) (x : ℕ) where
   pub push-short : n < m → record { len = n + 1; line = set buf n x } ≡ keptOf m (heldOf m n buf ++ x ∷ []) buf
   unfolding keep
@@ -249,42 +251,42 @@ module _ (m n : ℕ) (buf : List ℕ) (room : m ≤ length buf) (x : ℕ) where
         add-one n,
       )
 
-  behind-take : m ≤ n → n ≤ m + 2 → take m (heldOf m n buf ++ x ∷ []) ≡ take m buf
-  behind-take l few =
+  after-take : m ≤ n → n ≤ m + 2 → take m (heldOf m n buf ++ x ∷ []) ≡ take m buf
+  after-take l few =
       take-append-le m (heldOf m n buf) (x ∷ []) (rw (held-length m n buf room few) l) ∙ held-take m n buf room l
 
-  behind-length : n ≤ m + 2 → length (heldOf m n buf ++ x ∷ []) ≡ n + 1
-  behind-length few = rw (length-append, held-length m n buf room few)
+  after-length : n ≤ m + 2 → length (heldOf m n buf ++ x ∷ []) ≡ n + 1
+  after-length few = rw (length-append, held-length m n buf room few)
 
-  behind-byte : n ≡ m → getD (heldOf m n buf ++ x ∷ []) m 0 ≡ x
-  behind-byte e = getD-at (heldOf m n buf) x [] 0 m (held-length m n buf room (omega arith) ∙ e)
+  after-byte : n ≡ m → getD (heldOf m n buf ++ x ∷ []) m 0 ≡ x
+  after-byte e = getD-at (heldOf m n buf) x [] 0 m (held-length m n buf room (omega arith) ∙ e)
 
   pub push-return : n ≡ m → x ≡ 13 → record { len = m + 1; line = buf } ≡ keptOf m (heldOf m n buf ++ x ∷ []) buf
   push-return e d =
       rw (
-        count-return m (heldOf m n buf ++ x ∷ []) (behind-length (omega arith) ∙ ap (λ (i : ℕ). i + 1) e) (behind-byte e ∙ d),
-        keep-as-is m (heldOf m n buf ++ x ∷ []) buf room (behind-take (omega arith) (omega arith)),
+        count-return m (heldOf m n buf ++ x ∷ []) (after-length (omega arith) ∙ ap (λ (i : ℕ). i + 1) e) (after-byte e ∙ d),
+        keep-as-is m (heldOf m n buf ++ x ∷ []) buf room (after-take (omega arith) (omega arith)),
       )
 
   pub push-over : m ≤ n → n ≤ m + 2 → (n ≡ m → x ≡ 13 → ⊥) → record { len = m + 2; line = buf } ≡ keptOf m (heldOf m n buf ++ x ∷ []) buf
   push-over l few d =
-      let k : length (heldOf m n buf ++ x ∷ []) ≡ n + 1 = behind-length few in
+      let k : length (heldOf m n buf ++ x ∷ []) ≡ n + 1 = after-length few in
       rw (
         count-over m (heldOf m n buf ++ x ∷ [])
-            (record { more = omega (arith, k); no-cr = λ e b. let z : n ≡ m = omega arith in d z (sym (behind-byte z) ∙ b) }),
-        keep-as-is m (heldOf m n buf ++ x ∷ []) buf room (behind-take l few),
+            (record { more = omega (arith, k); no-cr = λ e b. let z : n ≡ m = omega arith in d z (sym (after-byte z) ∙ b) }),
+        keep-as-is m (heldOf m n buf ++ x ∷ []) buf room (after-take l few),
       )
 
--- what comes behind a line that is held is kept as behind the line itself
+-- what comes after a line that is held is kept as after the line itself
 module _ (m : ℕ) (h : List ℕ) (n : ℕ) (buf : List ℕ) (held : Holds m h n buf) where
-  pub count-behind : (p : List ℕ) → countOf m (heldOf m n buf ++ p) ≡ countOf m (h ++ p)
-  count-behind p = alike-count m (heldOf m n buf ++ p) (h ++ p) (alike-append m (heldOf m n buf) h p (holds-alike m h n buf held))
+  pub count-after : (p : List ℕ) → countOf m (heldOf m n buf ++ p) ≡ countOf m (h ++ p)
+  count-after p = alike-count m (heldOf m n buf ++ p) (h ++ p) (alike-append m (heldOf m n buf) h p (holds-alike m h n buf held))
 
-  pub keep-behind : (p : List ℕ) → keep m (heldOf m n buf ++ p) buf ≡ keep m (h ++ p) buf
-  keep-behind p = alike-keep m (heldOf m n buf ++ p) (h ++ p) buf (alike-append m (heldOf m n buf) h p (holds-alike m h n buf held))
+  pub keep-after : (p : List ℕ) → keep m (heldOf m n buf ++ p) buf ≡ keep m (h ++ p) buf
+  keep-after p = alike-keep m (heldOf m n buf ++ p) (h ++ p) buf (alike-append m (heldOf m n buf) h p (holds-alike m h n buf held))
 
-  pub event-behind : (p : List ℕ) (strip : Bool) (next : ℕ) → eventOf m strip (heldOf m n buf ++ p) next ≡ eventOf m strip (h ++ p) next
-  event-behind p strip next =
+  pub event-after : (p : List ℕ) (strip : Bool) (next : ℕ) → eventOf m strip (heldOf m n buf ++ p) next ≡ eventOf m strip (h ++ p) next
+  event-after p strip next =
       alike-event m (heldOf m n buf ++ p) (h ++ p) strip next (alike-append m (heldOf m n buf) h p (holds-alike m h n buf held))
 
 -- the same, of a line that was kept just now
@@ -299,10 +301,10 @@ module _ (m : ℕ) (h : List ℕ) (buf : List ℕ) (room : m ≤ length buf) (n 
   kept-more p =
       let b : buf′ ≡ keep m h buf = ap (λ (k : Kept). k .line) e in
       let c : keep m (h ++ p) buf′ ≡ keep m (h ++ p) buf = ap (keep m (h ++ p)) b ∙ keep-more m h buf room p in
-      rw (count-behind m h n buf′ now-holds p, keep-behind m h n buf′ now-holds p, c)
+      rw (count-after m h n buf′ now-holds p, keep-after m h n buf′ now-holds p, c)
 
   pub kept-event : (strip : Bool) (next : ℕ) → eventOf m strip (heldOf m n buf′) next ≡ eventOf m strip h next
-  kept-event strip next = simp append-nil at (event-behind m h n buf′ now-holds [] strip next)
+  kept-event strip next = simp append-nil at (event-after m h n buf′ now-holds [] strip next)
 
   pub kept-few : n ≤ m + 2
   kept-few = go (size-of m h) (ap (λ (k : Kept). k .len) e)

@@ -1,4 +1,4 @@
--- The bytes before the next LF, from a place of a block on, and those held behind which they come.
+-- The bytes before the next LF, from a place of a block on, and those held after which they come.
 -- Assumes nothing.
 use Prim.Native.Nat.{ℕ, _+_, _≤_, _<_}
 use native.Mathlib.Omega.{arith}

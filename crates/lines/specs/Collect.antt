@@ -11,40 +11,40 @@ use Rattle.lines.specs.declared.Collected.{Collected}
 use Rattle.lines.specs.Lines.{untilLF, lineLen}
 use Rattle.lines.specs.Held.{countOf, keep, heldOf}
 
--- the event for the bytes h before an LF, with `next` the place behind it
+-- the event for the bytes h before an LF, with `next` the place after it
 unfoldable pub eventOf : ℕ → Bool → List ℕ → ℕ → Event
 eventOf m strip h next = pick (leb (lineLen strip h) m) (Line (lineLen strip h) next) (TooLong next)
 
 -- what a call gives back: the number held, the event, the buffer
-pub record Called : Type 0 where
+pub record Collects : Type 0 where
   pub len : ℕ
   pub event : Event
   pub line : List ℕ
 
-abbrev pub calledOf : Collected → List ℕ → Called
-calledOf r line = record { len = r .state .len; event = r .event; line = line }
+abbrev pub collectedIn : Collected → List ℕ → Collects
+collectedIn r line = record { len = r .state .len; event = r .event; line = line }
 
 -- the bytes h before an LF: nothing is held afterwards
-abbrev pub atLF : ℕ → Bool → List ℕ → ℕ → List ℕ → Called
+abbrev pub atLF : ℕ → Bool → List ℕ → ℕ → List ℕ → Collects
 atLF m strip h next buf = record { len = 0; event = eventOf m strip h next; line = keep m h buf }
 
 -- the bytes h with no LF: they are held
-abbrev pub atEnd : ℕ → List ℕ → List ℕ → Called
+abbrev pub atEnd : ℕ → List ℕ → List ℕ → Collects
 atEnd m h buf = record { len = countOf m h; event = Held; line = keep m h buf }
 
--- the bytes s of a block from the place `from` on, behind h
-abbrev pub behind : ℕ → Bool → List ℕ → List ℕ → ℕ → List ℕ → Called
-behind m strip h s from buf =
+-- the bytes s of a block from the place `from` on, after h
+abbrev pub onward : ℕ → Bool → List ℕ → List ℕ → ℕ → List ℕ → Collects
+onward m strip h s from buf =
     pick (ltb (length (untilLF s)) (length s))
     (atLF m strip (h ++ untilLF s) (from + length (untilLF s) + 1) buf)
     (atEnd m (h ++ untilLF s) buf)
 
 -- a call for lines of at most m bytes, a CR before the LF stripped or not: a buffer of fewer than m bytes comes first, and nothing changes
-unfoldable pub collectOf : ℕ → Bool → ℕ → List ℕ → ℕ → List ℕ → Called
+unfoldable pub collectOf : ℕ → Bool → ℕ → List ℕ → ℕ → List ℕ → Collects
 collectOf m strip n block from buf =
     pick (ltb (length buf) m)
     (record { len = n; event = Room; line = buf })
-    (behind m strip (heldOf m n buf) (drop from block) from buf)
+    (onward m strip (heldOf m n buf) (drop from block) from buf)
 
 -- the end of the input: bytes that are held are a last line
 unfoldable pub lastOf : ℕ → Bool → ℕ → List ℕ → Event

@@ -5,7 +5,7 @@ ghost use Prim.Native.Nat.{_+_, min};
 ghost use lib.ListN.{length, drop};
 ghost use Rattle.lines.specs.Lines.{untilLF, endsInCR, lineLen};
 ghost use Rattle.lines.specs.Held.{Within, keptOf, heldOf};
-ghost use Rattle.lines.specs.Collect.{eventOf, collectOf, lastOf, calledOf};
+ghost use Rattle.lines.specs.Collect.{eventOf, collectOf, lastOf, collectedIn};
 
 // How many bytes of the line that is not yet ended are held. One more than the most: all of them, and then a CR. Above that: it is too long already.
 pub struct Collector {
@@ -27,7 +27,7 @@ pub struct Collected {
     pub event: Event,
 }
 
-// How much is held after a run of bytes, and the place behind them.
+// How much is held after a run of bytes, and the place after them.
 struct Gathered {
     len: usize,
     at: usize,
@@ -49,7 +49,7 @@ pub fn collect_to(
     from: usize,
     line: &mut [u8],
 ) -> Collected
-    ensures { λ r. ⌜ calledOf r (now (line .exit)) ≡ collectOf most strip (state .len) (now (block .entry)) from (now (line .entry)) ⌝ }
+    ensures { λ r. ⌜ collectedIn r (now (line .exit)) ≡ collectOf most strip (state .len) (now (block .entry)) from (now (line .entry)) ⌝ }
 {
     let m = most as usize;
     if line.len() < m {
@@ -91,7 +91,8 @@ pub fn last(state: Collector, most: u16, strip: bool, line: &[u8]) -> Event
 fn gather(len: usize, most: usize, block: &[u8], from: usize, line: &mut [u8]) -> Gathered
     requires { ⌜ Within most len (now line) ⌝ }
     ensures { λ r. ⌜ r .at ≡ from + length (untilLF (drop from (now (block .entry)))) ⌝ }
-    ensures { λ r. ⌜ record { len = r .len; line = now (line .exit) } ≡ keptOf most (heldOf most len (now (line .entry)) ++ untilLF (drop from (now (block .entry)))) (now (line .entry)) ⌝ }
+    ensures { λ r. ⌜ record { len = r .len; line = now (line .exit) }
+        ≡ keptOf most (heldOf most len (now (line .entry)) ++ untilLF (drop from (now (block .entry)))) (now (line .entry)) ⌝ }
 {
     let mut n = len;
     let mut i = from;

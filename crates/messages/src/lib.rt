@@ -13,7 +13,7 @@ ghost use Rattle.position_report.specs.Table.{positionTable};
 ghost use Rattle.position_report.specs.Report.{positionOf};
 ghost use Rattle.static_data_report.specs.StaticData.{staticDataOf};
 ghost use Rattle.interrogation.specs.Interrogation.{interrogatedOf};
-ghost use Rattle.messages.specs.Messages.{noMessage, positionIn, staticIn, askedIn, endsPosition, endsStatic, endsAsked, answered, decodedOf};
+ghost use Rattle.messages.specs.Messages.{noMessage, positionIn, staticIn, askedIn, endsPosition, endsStatic, endsAsked, decodedIn, decodedOf};
 ghost use Rattle.messages.specs.Parts.{refusedBy, endingOr, unreadBy, decodingBy};
 
 // What a message tells. A static data report's texts and an interrogation's lists stand beside this enum, in `Message`.
@@ -31,14 +31,14 @@ pub struct Message {
     pub interrogation: Interrogation,
 }
 
-pub enum Outcome {
+pub enum ParseOutcome {
     Taken,
     Refused(Refusal),
 }
 
 // The outcome, and the message; a refused one tells nothing.
 pub struct Decoded {
-    pub outcome: Outcome,
+    pub outcome: ParseOutcome,
     pub message: Message,
 }
 
@@ -57,21 +57,21 @@ pub fn nothing() -> Message
 
 // A refusal.
 fn refused(refusal: Refusal) -> Decoded
-    ensures { λ r. ⌜ answered r ≡ refusedBy refusal ⌝ }
+    ensures { λ r. ⌜ decodedIn r ≡ refusedBy refusal ⌝ }
 {
     let message = nothing();
     Decoded {
-        outcome: Outcome::Refused(refusal),
+        outcome: ParseOutcome::Refused(refusal),
         message: message,
     }
 }
 
 // A message that is taken, of its parts.
 fn taken(content: AisMessage, texts: Texts, interrogation: Interrogation) -> Decoded
-    ensures { λ r. ⌜ answered r ≡ endingOr false (record { content = content; texts = texts; interrogation = interrogation }) ⌝ }
+    ensures { λ r. ⌜ decodedIn r ≡ endingOr false (record { content = content; texts = texts; interrogation = interrogation }) ⌝ }
 {
     Decoded {
-        outcome: Outcome::Taken,
+        outcome: ParseOutcome::Taken,
         message: Message {
             content: content,
             texts: texts,
@@ -82,7 +82,8 @@ fn taken(content: AisMessage, texts: Texts, interrogation: Interrogation) -> Dec
 
 // Types 1 to 3.
 fn parse_position(bytes: &[u8]) -> Decoded
-    ensures { λ r. ⌜ answered r ≡ endingOr (endsPosition (positionOf positionTable (now (bytes .entry)))) (positionIn (positionOf positionTable (now (bytes .entry)))) ⌝ }
+    ensures { λ r. ⌜ decodedIn r ≡ endingOr (endsPosition (positionOf positionTable (now (bytes .entry))))
+        (positionIn (positionOf positionTable (now (bytes .entry)))) ⌝ }
 {
     match position_report::parse(bytes) {
         Position::Short => return refused(Refusal::Short),
@@ -96,7 +97,8 @@ fn parse_position(bytes: &[u8]) -> Decoded
 
 // Type 24.
 fn parse_static(bytes: &[u8]) -> Decoded
-    ensures { λ r. ⌜ answered r ≡ endingOr (endsStatic (staticDataOf (now (bytes .entry)) .report)) (staticIn (staticDataOf (now (bytes .entry)) .report) (staticDataOf (now (bytes .entry)) .texts)) ⌝ }
+    ensures { λ r. ⌜ decodedIn r ≡ endingOr (endsStatic (staticDataOf (now (bytes .entry)) .report))
+        (staticIn (staticDataOf (now (bytes .entry)) .report) (staticDataOf (now (bytes .entry)) .texts)) ⌝ }
 {
     let found = static_data_report::parse(bytes);
     let reported = found.report;
@@ -115,13 +117,14 @@ fn parse_static(bytes: &[u8]) -> Decoded
 
 // Type 15.
 fn parse_interrogation(bytes: &[u8]) -> Decoded
-    ensures { λ r. ⌜ answered r ≡ endingOr (endsAsked (interrogatedOf (now (bytes .entry)) .outcome)) (askedIn (interrogatedOf (now (bytes .entry)) .outcome) (interrogatedOf (now (bytes .entry)) .interrogation)) ⌝ }
+    ensures { λ r. ⌜ decodedIn r ≡ endingOr (endsAsked (interrogatedOf (now (bytes .entry)) .outcome))
+        (askedIn (interrogatedOf (now (bytes .entry)) .outcome) (interrogatedOf (now (bytes .entry)) .interrogation)) ⌝ }
 {
     let found = interrogation::parse(bytes);
     let outcome = found.outcome;
     match outcome {
-        interrogation::Outcome::Short => return refused(Refusal::Short),
-        interrogation::Outcome::Taken => {
+        interrogation::Ending::Short => return refused(Refusal::Short),
+        interrogation::Ending::Taken => {
             let texts = static_data_report::no_texts();
             return taken(AisMessage::Interrogation, texts, found.interrogation);
         }
@@ -129,35 +132,43 @@ fn parse_interrogation(bytes: &[u8]) -> Decoded
 }
 
 // Why a type that is not decoded is refused: 10, or else 11.
-fn unread(kind: u8) -> Refusal
-    ensures { λ r. ⌜ refusedBy r ≡ unreadBy kind ⌝ }
+fn unread(number: u8) -> Refusal
+    ensures { λ r. ⌜ refusedBy r ≡ unreadBy number ⌝ }
 {
-    match kind {
-        4..=14 => return Refusal::OtherType { kind: kind },
-        16..=21 => return Refusal::OtherType { kind: kind },
-        27 => return Refusal::OtherType { kind: kind },
-        _ => return Refusal::UnknownType { kind: kind },
+    match number {
+        4..=14 => return Refusal::OtherType {
+            message_type: number,
+        },
+        16..=21 => return Refusal::OtherType {
+            message_type: number,
+        },
+        27 => return Refusal::OtherType {
+            message_type: number,
+        },
+        _ => return Refusal::UnknownType {
+            message_type: number,
+        },
     }
 }
 
 // By the type.
-fn parse_type(bytes: &[u8], kind: u8) -> Decoded
-    ensures { λ r. ⌜ answered r ≡ decodingBy kind (now (bytes .entry)) ⌝ }
+fn parse_type(bytes: &[u8], number: u8) -> Decoded
+    ensures { λ r. ⌜ decodedIn r ≡ decodingBy number (now (bytes .entry)) ⌝ }
 {
-    match kind {
+    match number {
         1..=3 => return parse_position(bytes),
         15 => return parse_interrogation(bytes),
         24 => return parse_static(bytes),
-        _ => return refused(unread(kind)),
+        _ => return refused(unread(number)),
     }
 }
 
 // Decodes unarmored bytes, of any length: 9 if there are none, then 10 or 11 with the type, then 9.
 pub fn parse(bytes: &[u8]) -> Decoded
-    ensures { λ r. ⌜ answered r ≡ decodedOf (now (bytes .entry)) ⌝ }
+    ensures { λ r. ⌜ decodedIn r ≡ decodedOf (now (bytes .entry)) ⌝ }
 {
-    let Taken::Bits(kind) = parsers::message_type(bytes) else {
+    let Taken::Bits(number) = parsers::message_type(bytes) else {
         return refused(Refusal::Short);
     };
-    parse_type(bytes, kind as u8)
+    parse_type(bytes, number as u8)
 }

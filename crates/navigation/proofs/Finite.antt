@@ -12,7 +12,8 @@ use lib.Ieee.{Float, binary32, round, ofInt, mul, div, isNan}
 use lib.Ieee.Exact.{HasValue}
 use lib.Ieee.Scale.{finite}
 use Rattle.navigation.specs.declared.Reading.{Reading}
-use Rattle.navigation.specs.Navigation.{single, unless, eqZ, finiteIn, tenthsOf, noSpeed, speedOf, noCourse, courseOf, degreesOf, placedOf, rootOf, noRate, rateOf}
+use Rattle.navigation.specs.Navigation.{single, unless, eqZ, finiteIn, tenthsOf, noSpeed, speedOf}
+use Rattle.navigation.specs.Navigation.{noCourse, courseOf, degreesOf, placedOf, rootOf, noRate, rateOf}
 use Rattle.navigation.proofs.Values.{exact, finite-no-nan}
 use Rattle.navigation.proofs.Bounded.{U, Bounded, bounded-finite, rounded, quotient, product}
 
@@ -26,7 +27,8 @@ in-full n h = omega arith
 tenths-finite : (raw : ℕ) → raw < 2 ^ 16 → T (finite (tenthsOf raw))
 unfolding ofInt
 tenths-finite raw h =
-    bounded-finite (quotient (round binary32 false raw 1) (single 10 1) false raw 1 10 1 16 (lit< tt) (lit< tt) (exact false raw (in-full raw h)) (exact false 10 (lit< tt)) (ten-fold raw h) (lit≤ tt))
+    bounded-finite (quotient (round binary32 false raw 1) (single 10 1) false raw 1 10 1 16 (lit< tt) (lit< tt) (exact false raw (in-full raw h))
+    (exact false 10 (lit< tt)) (ten-fold raw h) (lit≤ tt))
 
 -- ---- degrees of an `i32`
 over-i32 : (r : ℕ) → r ≤ 2 ^ 31 → r < 2 ^ 32 * 1
@@ -55,11 +57,14 @@ few n h = omega arith
 byte-full : (n : ℕ) → n ≤ 2 ^ 7 → n < 2 ^ 24
 byte-full n h = omega arith
 
-squared : (s : Bool) (n : ℕ) → n ≤ 2 ^ 7 → T (finite (mul binary32 (div binary32 (round binary32 s n 1) (single 4733 1000)) (div binary32 (round binary32 s n 1) (single 4733 1000))))
+squared : (s : Bool) (n : ℕ) → n ≤ 2 ^ 7
+    → T (finite (mul binary32 (div binary32 (round binary32 s n 1) (single 4733 1000)) (div binary32 (round binary32 s n 1) (single 4733 1000))))
 squared s n h =
     let root = div binary32 (round binary32 s n 1) (single 4733 1000) in
-    let x : Bounded root s 8 = quotient (round binary32 s n 1) (single 4733 1000) s n 1 2481455 (2 ^ 19) 8 (lit< tt) (lit< tt) (exact s n (byte-full n h)) unit-is (few n h) (lit≤ tt) in
-    bounded-finite (product root root s s (x .size) U (x .size) U 17 (pow-pos 149) (pow-pos 149) (x .has) (x .has) (lt-of-le-of-lt (mul-le-mul (x .small) (x .small)) (lit< tt)) (lit≤ tt))
+    let x : Bounded root s 8 =
+    quotient (round binary32 s n 1) (single 4733 1000) s n 1 2481455 (2 ^ 19) 8 (lit< tt) (lit< tt) (exact s n (byte-full n h)) unit-is (few n h) (lit≤ tt) in
+    bounded-finite (product root root s s (x .size) U (x .size) U 17 (pow-pos 149) (pow-pos 149) (x .has) (x .has)
+    (lt-of-le-of-lt (mul-le-mul (x .small) (x .small)) (lit< tt)) (lit≤ tt))
 
 square-finite : (raw : ℤ) → mag raw < 2 ^ 7 → T (finite (mul binary32 (rootOf raw) (rootOf raw)))
 unfolding ofInt

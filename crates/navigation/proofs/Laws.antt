@@ -15,7 +15,9 @@ pub manoeuvre-number : (raw : ℕ) → manoeuvreNumber (manoeuvreOf raw) ≡ raw
 manoeuvre-number raw = go (eqb raw 0) (eqb raw 1) (eqb raw 2) refl refl refl
   where
     go : (a b c : Bool) → eqb raw 0 ≡ a → eqb raw 1 ≡ b → eqb raw 2 ≡ c
-        → manoeuvreNumber (pick a ManeuverIndicator.Absent (pick b ManeuverIndicator.NoSpecialManeuver (pick c ManeuverIndicator.SpecialManeuver (ManeuverIndicator.Unknown raw)))) ≡ raw
+        → manoeuvreNumber (pick a ManeuverIndicator.Absent
+        (pick b ManeuverIndicator.NoSpecialManeuver (pick c ManeuverIndicator.SpecialManeuver (ManeuverIndicator.Unknown raw))))
+        ≡ raw
     go true b c h k l = sym (eqb-true raw 0 h)
     go false true c h k l = sym (eqb-true raw 1 k)
     go false false true h k l = sym (eqb-true raw 2 l)

@@ -1,7 +1,8 @@
 -- The sum of an integer's high part times 4096 and its low part, each a float exactly, is the integer rounded once. Assumes nothing.
 use mathlib.Core.Path.{_≡_, refl, sym, ap, _∙_, subst}
 use Prim.Native.Nat.{ℕ, zero, suc, _+_, _*_, _/_, _%_, _^_, _≤_, _<_, zero-le}
-use native.Mathlib.Nat.{zero-lt-suc, lt-irrefl, le-of-suc-le-suc, div-le-self, sub-zero, le-of-lt, zero-add, add-zero, zero-mul, mul-one, mul-assoc, mul-right-comm, mul-pos, add-mul, div-add-mod'}
+use native.Mathlib.Nat.{zero-lt-suc, lt-irrefl, le-of-suc-le-suc, div-le-self, sub-zero, le-of-lt, zero-add, add-zero}
+use native.Mathlib.Nat.{zero-mul, mul-one, mul-assoc, mul-right-comm, mul-pos, add-mul, div-add-mod'}
 use native.Mathlib.Omega.{arith}
 use mathlib.Core.Bool.{Bool, true, false}
 use lib.IntN.{ℤ, pos, negsuc, negℤ}
@@ -25,7 +26,9 @@ Whole x s n = HasValue x s n 1
 
 -- ---- a product with 4096
 times : (x : Float) (s : Bool) (n : ℕ) → Whole x s n → mul binary32 x (single 4096 1) ≡ round binary32 s (n * 4096) 1
-times x s n h = mul-at x (single 4096 1) s false n 1 4096 1 (lit< tt) (lit< tt) h (exact false 4096 (lit< tt)) ∙ ap (λ (b : Bool). round binary32 b (n * 4096) 1) (unlike-false s)
+times x s n h =
+    mul-at x (single 4096 1) s false n 1 4096 1 (lit< tt) (lit< tt) h (exact false 4096 (lit< tt))
+    ∙ ap (λ (b : Bool). round binary32 b (n * 4096) 1) (unlike-false s)
 
 -- ---- a sum of two whole numbers, as one of fractions with the same denominator
 common : (x y : Float) → ℕ
@@ -43,7 +46,8 @@ to-sum (fin u m e) nan s t a b h k = absurd k
 to-sum (fin u m e) (inf v) s t a b h k = absurd k
 to-sum (fin u m e) (fin v n d) s t a b h k =
     let left : m * up e * down d ≡ a * (down e * down d) = ap (λ (i : ℕ). i * down d) (sym (mul-one (m * up e)) ∙ h .1) ∙ mul-assoc a (down e) (down d) in
-    let right : n * up d * down e ≡ b * (down e * down d) = ap (λ (i : ℕ). i * down e) (sym (mul-one (n * up d)) ∙ k .1) ∙ mul-right-comm b (down d) (down e) ∙ mul-assoc b (down e) (down d) in
+    let right : n * up d * down e ≡ b * (down e * down d) =
+    ap (λ (i : ℕ). i * down e) (sym (mul-one (n * up d)) ∙ k .1) ∙ mul-right-comm b (down d) (down e) ∙ mul-assoc b (down e) (down d) in
     cc (left, right, h .0, k .0)
 
 -- one sign
@@ -110,9 +114,17 @@ high s q h = subst (λ (x : Float). Whole x s (q * 4096)) (sym (times (round bin
 below-zero : (q r : ℕ) → q < 2 ^ 24 → r < 2 ^ 24 → 0 < q * 4096 + r → joined (negℤ (pos q)) (negℤ (pos r)) ≡ round binary32 true (q * 4096 + r) 1
 unfolding ofInt
 below-zero zero zero hq hr h = absurd (lt-irrefl 0 h)
-below-zero zero (suc r) hq hr h = only-right (mul binary32 (round binary32 false 0 1) (single 4096 1)) (round binary32 true (suc r) 1) false true (suc r) (zero-lt-suc r) (high false 0 hq) (exact true (suc r) hr) ∙ ap (λ (i : ℕ). round binary32 true i 1) (sym (zero-add (suc r)))
-below-zero (suc q) zero hq hr h = only-left (mul binary32 (round binary32 true (suc q) 1) (single 4096 1)) (round binary32 false 0 1) true false (suc q * 4096) (mul-pos (zero-lt-suc q) (lit< tt)) (high true (suc q) hq) (exact false 0 hr) ∙ ap (λ (i : ℕ). round binary32 true i 1) (sym (add-zero (suc q * 4096)))
-below-zero (suc q) (suc r) hq hr h = both (mul binary32 (round binary32 true (suc q) 1) (single 4096 1)) (round binary32 true (suc r) 1) true (suc q * 4096) (suc r) (high true (suc q) hq) (exact true (suc r) hr)
+below-zero zero (suc r) hq hr h =
+    only-right (mul binary32 (round binary32 false 0 1) (single 4096 1)) (round binary32 true (suc r) 1) false true (suc r) (zero-lt-suc r) (high false 0 hq)
+    (exact true (suc r) hr)
+    ∙ ap (λ (i : ℕ). round binary32 true i 1) (sym (zero-add (suc r)))
+below-zero (suc q) zero hq hr h =
+    only-left (mul binary32 (round binary32 true (suc q) 1) (single 4096 1)) (round binary32 false 0 1) true false (suc q * 4096)
+    (mul-pos (zero-lt-suc q) (lit< tt)) (high true (suc q) hq) (exact false 0 hr)
+    ∙ ap (λ (i : ℕ). round binary32 true i 1) (sym (add-zero (suc q * 4096)))
+below-zero (suc q) (suc r) hq hr h =
+    both (mul binary32 (round binary32 true (suc q) 1) (single 4096 1)) (round binary32 true (suc r) 1) true (suc q * 4096) (suc r) (high true (suc q) hq)
+    (exact true (suc r) hr)
 
 small-high : (n : ℕ) → n ≤ 2 ^ 31 → n / 4096 < 2 ^ 24
 small-high n h = omega arith

@@ -28,7 +28,8 @@ shifted s n h =
     (mul-assoc n 4096 (2 ^ 149) ∙ sym (mul-one (n * 2 ^ 161)))
 
 -- ---- the operations
-pub mul-at : (x y : Float) (s t : Bool) (a c b d : ℕ) → 0 < c → 0 < d → HasValue x s a c → HasValue y t b d → mul binary32 x y ≡ round binary32 (unlike s t) (a * b) (c * d)
+pub mul-at : (x y : Float) (s t : Bool) (a c b d : ℕ) → 0 < c → 0 < d → HasValue x s a c → HasValue y t b d
+    → mul binary32 x y ≡ round binary32 (unlike s t) (a * b) (c * d)
 unfolding mul
 mul-at nan y s t a c b d C D h k = absurd h
 mul-at (inf u) y s t a c b d C D h k = absurd h
@@ -47,7 +48,8 @@ cross x df c b a de y d h k =
     ∙ ap (λ (i : ℕ). a * d * i) (mul-comm de y)
 
 -- the divisor is not 0
-pub div-at : (x y : Float) (s t : Bool) (a c b d : ℕ) → 0 < c → 0 < b → HasValue x s a c → HasValue y t b d → div binary32 x y ≡ round binary32 (unlike s t) (a * d) (c * b)
+pub div-at : (x y : Float) (s t : Bool) (a c b d : ℕ) → 0 < c → 0 < b → HasValue x s a c → HasValue y t b d
+    → div binary32 x y ≡ round binary32 (unlike s t) (a * d) (c * b)
 unfolding div
 div-at nan y s t a c b d C B h k = absurd h
 div-at (inf u) y s t a c b d C B h k = absurd h
@@ -58,7 +60,8 @@ div-at (fin u m e) (fin v zero f) s t a c b d C B h k =
 div-at (fin u m e) (fin v (suc n) f) s t a c b d C B h k =
     ap (λ (i : Bool). cond i (cond (eqb m 0) nan (inf (unlike u v))) (round binary32 (unlike u v) (m * up e * down f) (suc n * up f * down e))) (eqb·suc-zero n)
     ∙ ap₂ (λ (i j : Bool). round binary32 (unlike i j) (m * up e * down f) (suc n * up f * down e)) (h .0) (k .0)
-    ∙ round-same binary32 (unlike s t) (m * up e * down f) (suc n * up f * down e) (a * d) (c * b) (mul-pos (mul-pos (zero-lt-suc n) (up-pos f)) (down-pos e)) (mul-pos C B)
+    ∙ round-same binary32 (unlike s t) (m * up e * down f) (suc n * up f * down e) (a * d) (c * b) (mul-pos (mul-pos (zero-lt-suc n) (up-pos f)) (down-pos e))
+    (mul-pos C B)
     (cross (m * up e) (down f) c b a (down e) (suc n * up f) d (h .1) (k .1))
 
 -- ---- what has a value is no NaN and no infinity

@@ -5,7 +5,7 @@ ghost use lib.ListN.{getD};
 ghost use Rattle.parsers.specs.Bits.{val, bitAt};
 ghost use Rattle.parsers.specs.Field.{Field, takenOf, signedOf, twos, remainingOf};
 ghost use Rattle.parsers.specs.Scan.{Led, Trailed};
-ghost use Rattle.parsers.specs.Text.{asciiOf, charAt, charsOf, held, textOf};
+ghost use Rattle.parsers.specs.Text.{asciiOf, charAt, charsOf, textWith, textOf};
 
 // A field's bits as a number, or that the field does not lie within the slice.
 pub enum Taken {
@@ -175,7 +175,7 @@ fn trailing(bytes: &[u8], at: usize, start: usize, count: usize, c: u8) -> usize
 // The `count` characters from character `start` on.
 fn spell(bytes: &[u8], at: usize, start: usize, count: usize) -> Text
     requires { ⌜ start + count ≤ 20 ⌝ }
-    ensures { λ r. ⌜ r ≡ held (charsOf (now (bytes .entry)) (at + start * 6) count) ⌝ }
+    ensures { λ r. ⌜ r ≡ textWith (charsOf (now (bytes .entry)) (at + start * 6) count) ⌝ }
 {
     let mut out = [0u8; 20];
     let mut i: usize = 0;

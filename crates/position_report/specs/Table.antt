@@ -5,7 +5,7 @@ use Rattle.radio_status.specs.Table as status-table
 
 -- the rows by meaning. Another layout is another value of this type
 pub record Layout : Type 0 where
-  pub kind : Span
+  pub type : Span
   pub repeat : Span
   pub mmsi : Span
   pub status : Span
@@ -28,7 +28,7 @@ pub record Layout : Type 0 where
 -- spare 3, RAIM 1, radio 19"
 abbrev pub positionTable : Layout
 positionTable = record {
-  kind = span 0 6;
+  type = span 0 6;
   repeat = span 6 2;
   mmsi = span 8 30;
   status = span 38 4;
@@ -50,5 +50,6 @@ positionTable = record {
 -- the rows in the order in which they are sent
 abbrev pub rowsOf : Layout → List Span
 rowsOf t =
-    t .kind ∷ t .repeat ∷ t .mmsi ∷ t .status ∷ t .turn ∷ t .speed ∷ t .accuracy ∷ t .longitude ∷ t .latitude ∷ t .course ∷ t .heading ∷ t .second ∷ t .manoeuvre
+    t .type ∷ t .repeat ∷ t .mmsi ∷ t .status ∷ t .turn ∷ t .speed ∷ t .accuracy ∷ t .longitude ∷ t .latitude ∷ t .course ∷ t .heading ∷ t .second
+    ∷ t .manoeuvre
     ∷ t .spare ∷ t .raim ∷ t .radio ∷ []

@@ -1,4 +1,5 @@
--- The table of the radio status: the last 19 of a position report's 168 bits (document 01, 'Fields and types'; the AIVDM description, "149-167 | 19 | Radio status").
+-- The table of the radio status: the last 19 of a position report's 168 bits (document 01, 'Fields and types'; the AIVDM description, "149-167 | 19 | Radio
+-- status").
 use Rattle.parsers.specs.Table.{Span, span}
 
 -- the rows by meaning. Another layout is another value of this type
@@ -14,7 +15,8 @@ pub record Layout : Type 0 where
   pub slots : Span
   pub keep : Span
 
--- "Radio, types 1 and 2: sync 2, timeout 3, then 14 bits by timeout. .. 1: hour 5, spare 1, minute 6, spare 2. .. Type 3: sync 2, increment 13, slots 3, keep 1"
+-- "Radio, types 1 and 2: sync 2, timeout 3, then 14 bits by timeout. .. 1: hour 5, spare 1, minute 6, spare 2. .. Type 3: sync 2, increment 13, slots 3,
+-- keep 1"
 abbrev pub radioTable : Layout
 radioTable = record {
   sync = span 149 2;

@@ -1,6 +1,7 @@
 // Reading a line over a record that the caller lends (sentence.rs, `AisParser::parse` over `&mut self`), and for programs.
 use ais::Stepped;
 use answer::Answer;
+use answer::Decode;
 use reassembly::Record;
 ghost use mathlib.Core.Path.{_≡_};
 ghost use Rattle.ais.specs.Call.{calledIn, calledOf};
@@ -9,11 +10,12 @@ ghost use Rattle.ais.specs.Call.{calledIn, calledOf};
 pub fn read(
     state: &mut Record,
     line: &[u8],
-    decode: bool,
+    decode: Decode,
     payload: &mut [u8],
     bits: &mut [u8],
 ) -> Answer
-    ensures { λ r. ⌜ calledIn (record { state = now (state .exit); answer = r }) (now (payload .exit)) (now (bits .exit)) ≡ calledOf (now (state .entry)) (now (line .entry)) decode (now (payload .entry)) (now (bits .entry)) ⌝ }
+    ensures { λ r. ⌜ calledIn (record { state = now (state .exit); answer = r }) (now (payload .exit)) (now (bits .exit))
+        ≡ calledOf (now (state .entry)) (now (line .entry)) decode (now (payload .entry)) (now (bits .entry)) ⌝ }
 {
     let s = ais::step(*state, line, decode, payload, bits);
     *state = s.state;
@@ -21,14 +23,15 @@ pub fn read(
 }
 
 // For whoever holds the record by value, as a program's loop does: it is lent to `read` and comes back.
-pub fn turn(
+pub fn call(
     state: Record,
     line: &[u8],
-    decode: bool,
+    decode: Decode,
     payload: &mut [u8],
     bits: &mut [u8],
 ) -> Stepped
-    ensures { λ r. ⌜ calledIn r (now (payload .exit)) (now (bits .exit)) ≡ calledOf state (now (line .entry)) decode (now (payload .entry)) (now (bits .entry)) ⌝ }
+    ensures { λ r. ⌜ calledIn r (now (payload .exit)) (now (bits .exit))
+        ≡ calledOf state (now (line .entry)) decode (now (payload .entry)) (now (bits .entry)) ⌝ }
 {
     let mut held = state;
     let answer = read(&mut held, line, decode, payload, bits);

@@ -7,7 +7,8 @@ use lib.ListN.{getD}
 use Rattle.refusal.specs.Words.{pick, Told, taken, refused}
 use Rattle.refusal.specs.Refusal.{rowOf, told}
 use Rattle.refusal.specs.declared.Refusal.{Refusal}
-use Rattle.refusal.specs.declared.Refusal.the-variants.{LineTooLong, Line, Checksum, MessageNumber, FragmentNumber, PayloadTooLong, Fill, Armour, Short, OtherType, UnknownType, Room, Request}
+use Rattle.refusal.specs.declared.Refusal.the-variants.{LineTooLong, Line, Checksum, MessageNumber, FragmentNumber, PayloadTooLong, Fill}
+use Rattle.refusal.specs.declared.Refusal.the-variants.{Armour, Short, OtherType, UnknownType, Room, Request}
 
 -- the refusal of a number and its values
 abbrev pub byNumber : ℕ → List ℕ → Refusal
@@ -35,8 +36,8 @@ read-back PayloadTooLong = refl
 read-back Fill = refl
 read-back (Armour offset) = refl
 read-back Short = refl
-read-back (OtherType kind) = refl
-read-back (UnknownType kind) = refl
+read-back (OtherType n) = refl
+read-back (UnknownType n) = refl
 read-back Room = refl
 read-back Request = refl
 

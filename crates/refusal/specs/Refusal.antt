@@ -3,7 +3,8 @@ use mathlib.Core.List.{List, [], _∷_}
 use Prim.Native.Nat.{ℕ}
 use Rattle.refusal.specs.Words.{Told, refused}
 use Rattle.refusal.specs.declared.Refusal.{Refusal}
-use Rattle.refusal.specs.declared.Refusal.the-variants.{LineTooLong, Line, Checksum, MessageNumber, FragmentNumber, PayloadTooLong, Fill, Armour, Short, OtherType, UnknownType, Room, Request}
+use Rattle.refusal.specs.declared.Refusal.the-variants.{LineTooLong, Line, Checksum, MessageNumber, FragmentNumber, PayloadTooLong, Fill, Armour}
+use Rattle.refusal.specs.declared.Refusal.the-variants.{Short, OtherType, UnknownType, Room, Request}
 
 -- a row of the table: the number, and what is also returned
 pub record Row : Type 0 where
@@ -24,8 +25,8 @@ rowOf PayloadTooLong = row 6 []
 rowOf Fill = row 7 []
 rowOf (Armour offset) = row 8 (offset ∷ [])
 rowOf Short = row 9 []
-rowOf (OtherType kind) = row 10 (kind ∷ [])
-rowOf (UnknownType kind) = row 11 (kind ∷ [])
+rowOf (OtherType n) = row 10 (n ∷ [])
+rowOf (UnknownType n) = row 11 (n ∷ [])
 rowOf Room = row 12 []
 rowOf Request = row 13 []
 

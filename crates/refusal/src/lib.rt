@@ -15,8 +15,8 @@ pub enum Refusal {
     Fill,
     Armour { offset: usize },
     Short,
-    OtherType { kind: u8 },
-    UnknownType { kind: u8 },
+    OtherType { message_type: u8 },
+    UnknownType { message_type: u8 },
     Room,
     Request,
 }
@@ -38,8 +38,8 @@ pub fn number(refusal: Refusal) -> u8
         Refusal::Fill => 7,
         Refusal::Armour { offset: _ } => 8,
         Refusal::Short => 9,
-        Refusal::OtherType { kind: _ } => 10,
-        Refusal::UnknownType { kind: _ } => 11,
+        Refusal::OtherType { message_type: _ } => 10,
+        Refusal::UnknownType { message_type: _ } => 11,
         Refusal::Room => 12,
         Refusal::Request => 13,
     }
@@ -70,8 +70,8 @@ pub fn values_of(refusal: Refusal) -> Values
         Refusal::Fill => none(),
         Refusal::Armour { offset } => one(offset as u64),
         Refusal::Short => none(),
-        Refusal::OtherType { kind } => one(kind as u64),
-        Refusal::UnknownType { kind } => one(kind as u64),
+        Refusal::OtherType { message_type } => one(message_type as u64),
+        Refusal::UnknownType { message_type } => one(message_type as u64),
         Refusal::Room => none(),
         Refusal::Request => none(),
     }

@@ -9,7 +9,7 @@ use Rattle.parsers.specs.Table.{Span, span, Tiled}
 -- the rows by meaning. Another layout is another value of this type
 pub record Layout : Type 0 where
   -- the head
-  pub kind : Span
+  pub type : Span
   pub repeat : Span
   pub mmsi : Span
   pub part : Span
@@ -33,7 +33,7 @@ pub record Layout : Type 0 where
 -- serial 20 (the same 24 bits also shown as text), call sign 42, bow 9, stern 9, port 6, starboard 6, spare 6"
 abbrev pub table : Layout
 table = record {
-  kind = span 0 6;
+  type = span 0 6;
   repeat = span 6 2;
   mmsi = span 8 30;
   part = span 38 2;
@@ -53,7 +53,7 @@ table = record {
 
 -- the rows of the head, of part 0 and of part 1, in the order in which they are sent
 abbrev pub headRows : Layout → List Span
-headRows t = t .kind ∷ t .repeat ∷ t .mmsi ∷ t .part ∷ []
+headRows t = t .type ∷ t .repeat ∷ t .mmsi ∷ t .part ∷ []
 
 abbrev pub rowsA : Layout → List Span
 rowsA t = t .name ∷ []

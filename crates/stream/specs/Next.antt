@@ -36,7 +36,8 @@ abbrev pub inBlock : ℕ → Bool → Input → List ℕ → List ℕ → Given
 inBlock m strip input block buf =
     let b = take (input .filled) block in
     let c = collectOf m strip (input .held) b (input .from) buf in
-    takenWith (record { input = record { held = c .len; from = nextOf (c .event) (length b); filled = length b; more = input .more }; next = nextBy (c .event) }) (c .line)
+    let rest : Input = record { held = c .len; from = nextOf (c .event) (length b); filled = length b; more = input .more } in
+    takenWith (record { input = rest; next = nextBy (c .event) }) (c .line)
 
 -- at the end of the input: bytes that are held are a last line
 abbrev pub atEnd : ℕ → Bool → ℕ → List ℕ → Taken

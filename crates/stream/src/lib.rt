@@ -65,7 +65,7 @@ fn in_block(input: Input, most: u16, strip: bool, block: &[u8], line: &mut [u8])
     Taken {
         input: Input {
             held: c.state.len,
-            from: place(event, n),
+            from: next_from(event, n),
             filled: n,
             more: input.more,
         },
@@ -86,7 +86,7 @@ fn next_by(event: Event) -> Next
 }
 
 // The place to go on from after an event, in a block of so many bytes.
-fn place(event: Event, all: usize) -> usize
+fn next_from(event: Event, all: usize) -> usize
     ensures { λ r. ⌜ r ≡ nextOf event all ⌝ }
 {
     match event {

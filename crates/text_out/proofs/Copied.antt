@@ -16,7 +16,8 @@ module _ (at : ℕ) (out held : List ℕ) (h : at + length held ≤ length out) 
   pub copied-room : length held ≤ length (take (length out - at) (drop at out))
   copied-room = rw rest (omega (arith, length-drop at out, h))
 
-  pub copied-put : (part : List ℕ) → part ≡ take (length held) held ++ drop (length held) (take (length out - at) (drop at out)) → (next : ℕ) → next ≡ at + length held
+  pub copied-put : (part : List ℕ) → part ≡ take (length held) held ++ drop (length held) (take (length out - at) (drop at out))
+      → (next : ℕ) → next ≡ at + length held
       → text next (putMid at (length out - at) out part) ≡ put (text at out) held
   copied-put part q next e =
       let none : drop (length out - at) (drop at out) ≡ [] = drop-of-length-le (drop at out) {i = length out - at} (omega (arith, length-drop at out)) in

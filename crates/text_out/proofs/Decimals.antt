@@ -40,3 +40,8 @@ module _ (whole t : List ℕ) (d rest : ℕ) where
       let z : suc k - 1 ≡ k = omega arith in
       let old : (glyph rest ∷ []) ++ drop (suc k) t ≡ whole = rw (le-ltb 9 rest less) at inv in
       rw (z, drop-set-here t k d (omega arith), e) old
+
+-- a number below 10 is its own digit
+pub one-digit : (n : ℕ) → n < 10 → decimalIn 20 n ≡ glyph n ∷ []
+unfolding decimalIn
+one-digit n h = rw (le-ltb 9 n (omega arith))

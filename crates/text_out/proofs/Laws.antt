@@ -12,13 +12,13 @@ use borrow.Author.Tests.{lt-ltb, leb-true, leb-false}
 use Rattle.refusal.specs.Words.{pick}
 use Rattle.text_out.specs.Text.{Text, text, put1, put}
 
--- PIECES: s and then t behind it are s ++ t
+-- PIECES: s and then t after it are s ++ t
 pub put-put : (x : Text) (s t : List ℕ) → put (put x s) t ≡ put x (s ++ t)
 unfolding put
 put-put x [] t = refl
 put-put x (a ∷ s) t = put-put (put1 x a) s t
 
--- a piece behind what was put: how a caller joins its calls
+-- a piece after what was put: how a caller joins its calls
 pub put-then : (x : Text) {y z : Text} (s t : List ℕ) → y ≡ put x s → z ≡ put y t → z ≡ put x (s ++ t)
 put-then x s t e f = f ∙ ap (λ (w : Text). put w t) e ∙ put-put x s t
 
@@ -52,7 +52,8 @@ put-fits at bytes (x ∷ s) h =
     let a : take (at + 1) (set bytes at x) ≡ take at bytes ++ x ∷ [] = rw (add-one at) (take-suc-set bytes at x (omega arith)) in
     let b : drop (at + 1 + length s) (set bytes at x) ≡ drop (at + suc (length s)) bytes =
     drop-set-lt (at + 1 + length s) bytes at x (omega arith) ∙ ap (λ (i : ℕ). drop i bytes) e in
-    rw (lt-ltb at (length bytes) (omega arith)) (put-fits (at + 1) (set bytes at x) s (omega arith) ∙ rw (a, b, e, append-assoc (take at bytes) (x ∷ []) (s ++ drop (at + suc (length s)) bytes)))
+    rw (lt-ltb at (length bytes) (omega arith))
+    (put-fits (at + 1) (set bytes at x) s (omega arith) ∙ rw (a, b, e, append-assoc (take at bytes) (x ∷ []) (s ++ drop (at + suc (length s)) bytes)))
 
 -- what `up_to` counts
 module _ (n : ℕ) (s : List ℕ) where

@@ -1,4 +1,4 @@
--- A buffer that is filled from a place on: bytes put one behind the other, and none past the buffer's end.
+-- A buffer that is filled from a place on: bytes put one after the other, and none past the buffer's end.
 use Prim.Native.Nat.{ℕ, _+_}
 use Prim.Native.Char.{code}
 use Prim.Native.String.{String, [] as none, _∷_ as _then_}
@@ -19,7 +19,7 @@ text at bytes = record { at = at; bytes = bytes }
 unfoldable pub put1 : Text → ℕ → Text
 put1 t x = pick (ltb (t .at) (length (t .bytes))) (text (t .at + 1) (set (t .bytes) (t .at) x)) t
 
--- a string of bytes, one behind the other
+-- a string of bytes, one after the other
 unfoldable pub put : Text → List ℕ → Text
 put t [] = t
 put t (x ∷ s) = put (put1 t x) s

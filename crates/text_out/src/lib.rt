@@ -1,5 +1,5 @@
-// Text put into a lent buffer from a place on: bytes, hex, decimals. What does not fit is left out, and each function answers the place behind
-// what it put, so that a caller puts one piece behind the other and tests nothing in between.
+// Text put into a lent buffer from a place on: bytes, hex, decimals. What does not fit is left out, and each function answers the place after
+// what it put, so that a caller puts one piece after the other and tests nothing in between.
 ghost use mathlib.Core.Path.{_≡_};
 ghost use mathlib.Core.List.{[], _∷_};
 ghost use Prim.Native.Nat.{_<_, _≤_, min};
@@ -72,10 +72,13 @@ pub fn put_word(out: &mut [u8], at: usize, n: u32) -> usize
     put_hex(out, at, &b)
 }
 
-// A number in decimal, with no leading zeros.
+// A number in decimal, with no leading zeros. One digit, as most numbers of a report have, is put by itself.
 pub fn put_decimal(out: &mut [u8], at: usize, n: u64) -> usize
     ensures { λ r. ⌜ text r (now (out .exit)) ≡ put (text at (now (out .entry))) (decimalOf n) ⌝ }
 {
+    if n < 10 {
+        return put_byte(out, at, digit_of(n as u8));
+    }
     let mut digits = [0u8; 20];
     let i = spell(n, &mut digits);
     put_bytes(out, at, &digits[i..])

@@ -1,8 +1,8 @@
 // The comparing protocol over the proved library: each line of standard input is a command, and is answered with one line.
 use reassembly::Record;
-use reply::Answered;
 use stream::Input;
 use stream::Next;
+use trace_commands::Answered;
 
 // A command line has at most so many bytes. A CR before the LF is one of them: no command has one.
 const MOST: u16 = 8192;
@@ -14,10 +14,10 @@ struct Kept {
     used: usize,
 }
 
-// A line: its answer, and an LF. Answers the record, and the place behind them.
+// A line: its answer, and an LF. Answers the record, and the place after them.
 fn answer_line(state: Record, line: &[u8], n: usize, out: &mut [u8], used: usize) -> Answered {
     let k = text_out::up_to(n, line);
-    let a = protocol::answer(state, &line[..k], out, used);
+    let a = trace_protocol::answer(state, &line[..k], out, used);
     let after = a.state;
     Answered {
         state: after,
@@ -27,7 +27,7 @@ fn answer_line(state: Record, line: &[u8], n: usize, out: &mut [u8], used: usize
 
 // A line that is too long is no command.
 fn answer_long(out: &mut [u8], used: usize) -> usize {
-    let at = commands::say_bad(out, used);
+    let at = trace_commands::say_bad(out, used);
     text_out::put_byte(out, at, b'\n')
 }
 
@@ -47,7 +47,7 @@ fn answer_next(state: Record, next: Next, line: &[u8], out: &mut [u8], used: usi
 }
 
 // The next line, answered.
-fn turn(s: Kept, block: &mut [u8], line: &mut [u8], out: &mut [u8]) -> Kept {
+fn answer_one(s: Kept, block: &mut [u8], line: &mut [u8], out: &mut [u8]) -> Kept {
     let input = s.input;
     let state = s.state;
     let t = stream::next_line(input, MOST, false, block, line);
@@ -62,17 +62,17 @@ fn turn(s: Kept, block: &mut [u8], line: &mut [u8], out: &mut [u8]) -> Kept {
     }
 }
 
-// All lines. Nothing says that the input ends, so the loop counts its turns down, from a number that no run uses up.
+// All lines. Nothing says that the input ends, so the loop counts its rounds down, from a number that no run uses up.
 // Answers how much of the output buffer is in use at the end.
 fn answer_all(s: Kept, block: &mut [u8], line: &mut [u8], out: &mut [u8]) -> usize {
     let mut now = s;
-    let mut turns = u64::MAX;
-    while turns > 0 {
-        now = turn(now, block, line, out);
+    let mut rounds = u64::MAX;
+    while rounds > 0 {
+        now = answer_one(now, block, line, out);
         if !now.input.more {
             return now.used;
         }
-        turns -= 1;
+        rounds -= 1;
     }
     now.used
 }

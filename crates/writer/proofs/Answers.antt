@@ -7,7 +7,7 @@ use borrow.Author.Tests.{lt-ltb, le-ltb}
 use lib.ListN.{length}
 use Rattle.refusal.specs.Words.{Told, taken, refused, left}
 use Rattle.writer.specs.Message.{textAll}
-use Rattle.writer.specs.Writer.{answered, outside, messageOf, answerOf, Writes}
+use Rattle.writer.specs.Writer.{writtenIn, outside, messageOf, answerOf, Writes}
 use Rattle.writer.specs.declared.Request.{Request}
 use Rattle.writer.specs.declared.Written.{Written}
 
@@ -25,5 +25,6 @@ module _ (q : Request) (d : List ℕ) where
     unfolding answerOf
     says-taken b h = rw (b, le-ltb room (length (textAll (messageOf q d))) h)
 
-  pub answered-by : (out : List ℕ) {r : Written} {out′ : List ℕ} (t : Told ℕ) → answerOf q d (length out) ≡ t → answered r ≡ t → out′ ≡ left t (textAll (messageOf q d)) out → Writes q d out r out′
+  pub answered-by : (out : List ℕ) {r : Written} {out′ : List ℕ} (t : Told ℕ) → answerOf q d (length out) ≡ t → writtenIn r ≡ t
+      → out′ ≡ left t (textAll (messageOf q d)) out → Writes q d out r out′
   answered-by out t e p l = record { answers = p ∙ sym e; leaves = rw e l }

@@ -34,7 +34,13 @@ module _ (m : Message) (s : Sendable m) where
   line-length : (i : ℕ) → 1 ≤ i → i ≤ linesIn m → length (textOf m i) ≡ besideIn m + min 60 (length (m .payload) - 60 * (i - 1))
   unfolding textOf partsOf
   line-length i l h =
-      omega (arith, text-length (partsOf m i) (writable m s i l h), id-length (eqb (linesIn m) 1) (m .number), length-take 60 (drop (60 * (i - 1)) (m .payload)), length-drop (60 * (i - 1)) (m .payload))
+      omega (
+        arith,
+        text-length (partsOf m i) (writable m s i l h),
+        id-length (eqb (linesIn m) 1) (m .number),
+        length-take 60 (drop (60 * (i - 1)) (m .payload)),
+        length-drop (60 * (i - 1)) (m .payload),
+      )
 
   from-length : (i n : ℕ) → 1 ≤ i → i + n ≤ linesIn m + 1 → length (textFrom m i n) ≡ n * besideIn m + min (60 * n) (length (m .payload) - 60 * (i - 1))
   unfolding textFrom
@@ -53,7 +59,8 @@ module _ (m : Message) (s : Sendable m) where
   unfolding linesIn partsOf
   beside-short =
       let w = writable m s 1 (omega arith) (omega (arith, s .some-payload)) in
-      mul-le-mul {n₂ = 7} {m₂ = 22} (few-lines m s) (omega (arith, id-length (eqb (linesIn m) 1) (m .number), text-length (partsOf m 1) w, text-short (partsOf m 1) w))
+      mul-le-mul {n₂ = 7} {m₂ = 22} (few-lines m s)
+      (omega (arith, id-length (eqb (linesIn m) 1) (m .number), text-length (partsOf m 1) w, text-short (partsOf m 1) w))
 
   -- the body of a line fits into 80 bytes
   pub body-short : (i : ℕ) → 1 ≤ i → i ≤ linesIn m → length (bodyText (partsOf m i)) ≤ 80
@@ -62,7 +69,8 @@ module _ (m : Message) (s : Sendable m) where
       omega (arith, simp length-append at (text-short (partsOf m i) (writable m s i l h)), length-take 60 (drop (60 * (i - 1)) (m .payload)))
 
 -- the same from what the code finds: k lines, of b bytes each beside their characters
-module _ (q : Request) (d : List ℕ) (inside : outside q d ≡ false) (k b : ℕ) (k-is : k ≡ (charsIn (q .count) + 59) / 60) (b-is : b ≡ pick (eqb k 1) 20 21 + length (channelText (q .channel))) where
+module _ (q : Request) (d : List ℕ) (inside : outside q d ≡ false) (k b : ℕ) (k-is : k ≡ (charsIn (q .count) + 59) / 60)
+    (b-is : b ≡ pick (eqb k 1) 20 21 + length (channelText (q .channel))) where
   lines-found : k ≡ linesIn (messageOf q d)
   lines-found = rw lines-are k-is
 
@@ -73,4 +81,7 @@ module _ (q : Request) (d : List ℕ) (inside : outside q d ≡ false) (k b : �
   lines-small = rw (lines-found, beside-found) (beside-short (messageOf q d) (sendable q d inside))
 
   pub length-found : k * b + charsIn (q .count) ≡ length (textAll (messageOf q d))
-  length-found = rw (lines-found, beside-found) (sym (all-length (messageOf q d) (sendable q d inside) ∙ ap (λ (n : ℕ). linesIn (messageOf q d) * besideIn (messageOf q d) + n) (length-armoured d (q .count))))
+  length-found =
+      rw (lines-found, beside-found)
+      (sym (all-length (messageOf q d) (sendable q d inside)
+      ∙ ap (λ (n : ℕ). linesIn (messageOf q d) * besideIn (messageOf q d) + n) (length-armoured d (q .count))))

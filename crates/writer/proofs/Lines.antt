@@ -22,7 +22,7 @@ pub lines-are : (q : Request) (d : List ℕ) → linesIn (messageOf q d) ≡ (ch
 unfolding linesIn
 lines-are q d = rw length-armoured
 
--- the five pieces of a body, one behind the other
+-- the five pieces of a body, one after the other
 pub put-pieces : (x : Text) {y₁ y₂ y₃ y₄ y₅ : Text} (p : Parts)
     → y₁ ≡ put x (talkerText (p .talker) ++ reportText (p .report))
     → y₂ ≡ put y₁ (comma ∷ digit (p .total) ∷ comma ∷ digit (p .number) ∷ comma ∷ idText (p .id))

@@ -9,7 +9,7 @@ use Rattle.refusal.specs.Order.{First}
 use Rattle.refusal.proofs.Order.{exactly}
 use Rattle.refusal.proofs.Unique.{untold, untold-told}
 use Rattle.writer.specs.Message.{textAll}
-use Rattle.writer.specs.Writer.{answered, messageOf, checksOf, answerOf, Writes}
+use Rattle.writer.specs.Writer.{writtenIn, messageOf, checksOf, answerOf, Writes}
 use Rattle.writer.specs.declared.Request.{Request}
 use Rattle.writer.specs.declared.Written.{Written}
 use Rattle.writer.specs.declared.Written.the-variants.{Lines, Refused}
@@ -17,7 +17,7 @@ use Rattle.writer.specs.declared.Written.the-variants.{Lines, Refused}
 abbrev unanswered : Told ℕ → Written
 unanswered = untold Lines Refused
 
-unanswered-answered : (r : Written) → unanswered (answered r) ≡ r
+unanswered-answered : (r : Written) → unanswered (writtenIn r) ≡ r
 unanswered-answered (Lines n) = refl
 unanswered-answered (Refused r) = untold-told {A = ℕ} Lines Refused r
 

@@ -55,7 +55,7 @@ partsOf m i = record {
 unfoldable pub textOf : Message → ℕ → List ℕ
 textOf m i = lineText (partsOf m i)
 
--- n lines from line i on, one behind the other
+-- n lines from line i on, one after the other
 unfoldable pub textFrom : Message → ℕ → ℕ → List ℕ
 textFrom m i zero = []
 textFrom m i (suc n) = textOf m i ++ textFrom m (i + 1) n

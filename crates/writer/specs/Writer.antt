@@ -15,9 +15,9 @@ use Rattle.writer.specs.declared.Written.{Written}
 use Rattle.writer.specs.declared.Written.the-variants.{Lines, Refused}
 
 -- the answer on paper: the length of what was written, or document 01's number
-abbrev pub answered : Written → Told ℕ
-answered (Lines n) = taken n
-answered (Refused r) = told r
+abbrev pub writtenIn : Written → Told ℕ
+writtenIn (Lines n) = taken n
+writtenIn (Refused r) = told r
 
 -- "Bits 1 to 2304, packed, in enough bytes"
 abbrev pub badCount : ℕ → List ℕ → Bool
@@ -61,5 +61,5 @@ answerOf q d room = checked (checksOf q d room) (taken (length (textAll (message
 
 -- the promise: the answer and every lent byte
 pub record Writes (q : Request) (d out : List ℕ) (r : Written) (out′ : List ℕ) : Type 0 where
-  pub answers : answered r ≡ answerOf q d (length out)
+  pub answers : writtenIn r ≡ answerOf q d (length out)
   pub leaves : out′ ≡ left (answerOf q d (length out)) (textAll (messageOf q d)) out

@@ -175,7 +175,8 @@ fn put_body(out: &mut [u8], request: Request, bits: &[u8], i: usize) -> usize
 // How many lines there are, which of them this is, and the message number, which a single line leaves empty.
 fn put_numbers(out: &mut [u8], at: usize, total: usize, number: usize, id: u8) -> usize
     requires { ⌜ (total ≤ 9) × ((number ≤ 9) × (id ≤ 9)) ⌝ }
-    ensures { λ r. ⌜ text r (now (out .exit)) ≡ put (text at (now (out .entry))) (comma ∷ digit total ∷ comma ∷ digit number ∷ comma ∷ idText (pick (eqb total 1) Number.Absent (Number.Of id))) ⌝ }
+    ensures { λ r. ⌜ text r (now (out .exit))
+        ≡ put (text at (now (out .entry))) (comma ∷ digit total ∷ comma ∷ digit number ∷ comma ∷ idText (pick (eqb total 1) Number.Absent (Number.Of id))) ⌝ }
 {
     let s = [b',', b'0' + total as u8, b',', b'0' + number as u8, b','];
     let a = text_out::put_bytes(out, at, &s);
@@ -206,7 +207,7 @@ fn put_payload(
     p
 }
 
-// The fill, behind a comma.
+// The fill, after a comma.
 fn put_fill(out: &mut [u8], at: usize, fill: usize) -> usize
     requires { ⌜ fill ≤ 9 ⌝ }
     ensures { λ r. ⌜ text r (now (out .exit)) ≡ put (text at (now (out .entry))) (comma ∷ digit fill ∷ []) ⌝ }

@@ -37,8 +37,11 @@ loop-again : tie.Need-loop-again Inv-loop μ-loop
 loop-again c =
     let l = c .before .before .before in
     let s = l .before .before .args .payload .now in
-    let i = l .loop .i in
-    (ap (λ (t : Bool). t && c .is-armour .result) (l .loop .inv .0) ∙ ap (λ (t : Bool). leb i (firstBad s) && t) (c .is-armour .ensures) ∙ good-next s i (omega arith), omega arith)
+    let i = l .loop .i in (
+      ap (λ (t : Bool). t && c .is-armour .result) (l .loop .inv .0) ∙ ap (λ (t : Bool). leb i (firstBad s) && t) (c .is-armour .ensures)
+          ∙ good-next s i (omega arith),
+      omega arith,
+    )
 
 returns : tie.Need-returns Inv-loop μ-loop
 returns c =

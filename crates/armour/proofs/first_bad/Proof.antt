@@ -32,8 +32,9 @@ loop-less c = omega arith
 
 loop-again : tie.Need-loop-again Inv-loop μ-loop
 loop-again c =
-    let s = c .before .before .before .before .before .before .args .payload .now in
-    let i = c .before .before .before .before .loop .i in
+    let at-loop = c .before .before .before .before in
+    let s = at-loop .before .before .args .payload .now in
+    let i = at-loop .loop .i in
     let k : meaning (getD s i 0) < 64 = omega (arith, c .before .six .ensures) in
     omega (arith, bad-next s i (omega arith) k)
 
@@ -42,8 +43,9 @@ returns c = omega (arith, bad-end (c .before .before .before .args .payload .now
 
 returns-2 : tie.Need-returns-2 Inv-loop μ-loop
 returns-2 c =
-    let s = c .before .before .before .before .before .before .args .payload .now in
-    let i = c .before .before .before .before .loop .i in
+    let at-loop = c .before .before .before .before in
+    let s = at-loop .before .before .args .payload .now in
+    let i = at-loop .loop .i in
     omega (arith, bad-here s i (omega arith) (omega (arith, c .before .six .ensures)))
 
 pub first-bad-spec : {M : Type 1} → statement M

@@ -42,11 +42,13 @@ wide-requires-4 c κs = search needs
 
 returns : tie.Need-returns
 returns c f s =
-    let i = c .before .before .before .before .before .before .before .before .args .i in
-    let a = c .before .before .before .before .before .before .wide .ensures ∙ s .six i in
-    let b = c .before .before .before .before .wide2 .ensures ∙ s .six (i + 1) in
+    let at-wide2 = c .before .before .before .before in
+    let i = at-wide2 .before .before .before .before .args .i in
+    let a = at-wide2 .before .before .wide .ensures ∙ s .six i in
+    let b = at-wide2 .wide2 .ensures ∙ s .six (i + 1) in
     let two = val-join f (s .bit) (i * 6) 6 6 32 12 ((i + 1) * 6) a b (omega arith) refl (omega arith) in
-    let three = val-join f (s .bit) (i * 6) 12 6 32 18 ((i + 2) * 6) two (c .before .before .wide3 .ensures ∙ s .six (i + 2)) (omega arith) refl (omega arith) in
+    let three =
+    val-join f (s .bit) (i * 6) 12 6 32 18 ((i + 2) * 6) two (c .before .before .wide3 .ensures ∙ s .six (i + 2)) (omega arith) refl (omega arith) in
     val-join f (s .bit) (i * 6) 18 6 32 24 ((i + 3) * 6) three (c .wide4 .ensures ∙ s .six (i + 3)) (omega arith) refl (omega arith)
 
 pub four-at-spec : {M : Type 1} → statement M

@@ -75,7 +75,8 @@ loop-again c =
         simp length-set (l .inv .1 .0),
         λ f s.
             let four = c .four-at .ensures f s in
-            let last : bitAnd v 255 ≡ val f ((k * 3 + 2) * 8) 8 = ap (λ (n : ℕ). bitAnd n 255) same ∙ val-field f (s .bit) (k * 4 * 6) 16 8 0 24 ((k * 3 + 2) * 8) four (omega arith) (omega arith) in
+            let last : bitAnd v 255 ≡ val f ((k * 3 + 2) * 8) 8 =
+            ap (λ (n : ℕ). bitAnd n 255) same ∙ val-field f (s .bit) (k * 4 * 6) 16 8 0 24 ((k * 3 + 2) * 8) four (omega arith) (omega arith) in
             pack-three f k (a .out .now) (l .out) _ _ _ (omega arith) (l .inv .1 .1 f s)
             (val-field f (s .bit) (k * 4 * 6) 0 8 16 24 (k * 3 * 8) four (omega arith) (omega arith))
             (val-field f (s .bit) (k * 4 * 6) 8 8 8 24 ((k * 3 + 1) * 8) four (omega arith) (omega arith))

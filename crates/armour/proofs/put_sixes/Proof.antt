@@ -1,4 +1,4 @@
--- `put_sixes`: the first i characters stand there, and zeros behind them; the last has the fill cleared. Assumes nothing.
+-- `put_sixes`: the first i characters stand there, and zeros after them; the last has the fill cleared. Assumes nothing.
 use mathlib.Core.Path.{_≡_, _∙_}
 use Prim.Native.Nat.{_+_, _-_, _≤_}
 use native.Mathlib.Omega.{arith}
@@ -34,7 +34,9 @@ value-requires : tie.Need-value-requires Inv-loop μ-loop
 value-requires c κs = good _ _ (c .before .before .before .before .before .pre .0) (c .before .before .loop .i) (omega arith)
 
 element-write-out : tie.Need-element-write-out Inv-loop μ-loop
-element-write-out c = omega (arith, c .before .before .before .before .before .before .pre .0 .few)
+element-write-out c =
+    let start = c .before .before .before .before .before .before in
+    omega (arith, start .pre .0 .few)
 
 add-i : tie.Need-add-i Inv-loop μ-loop
 add-i c = search needs
@@ -44,8 +46,9 @@ loop-less c = search needs
 
 loop-again : tie.Need-loop-again Inv-loop μ-loop
 loop-again c =
-    let l = c .before .before .before .loop in
-    let i = c .before .before .before .before .before .before in
+    let at-loop = c .before .before .before in
+    let i = at-loop .before .before .before in
+    let l = at-loop .loop in
     (omega arith, begun-more _ (l .i) _ (l .out) (l .inv .1) (omega (arith, i .pre .0 .few)) (c .value .ensures ∙ inner _ _ (i .pre .0) (l .i) (omega arith)))
 
 shared-slice-read-last-six : tie.Need-shared-slice-read-last-six Inv-loop μ-loop
@@ -57,12 +60,15 @@ last-six-requires c κs =
     (good _ _ p _ (omega arith), omega (arith, p .filled))
 
 element-write-out-2 : tie.Need-element-write-out-2 Inv-loop μ-loop
-element-write-out-2 c = omega (arith, c .before .before .before .before .before .before .pre .0 .few)
+element-write-out-2 c =
+    let start = c .before .before .before .before .before .before in
+    omega (arith, start .pre .0 .few)
 
 returns-2 : tie.Need-returns-2 Inv-loop μ-loop
 returns-2 c =
-    let l = c .before .before .before .loop in
-    let i = c .before .before .before .before .before .before in
+    let at-loop = c .before .before .before in
+    let i = at-loop .before .before .before in
+    let l = at-loop .loop in
     let a = i .args in
     let n = length (a .payload .now) - 1 in
     let e : l .i ≡ n = omega arith in

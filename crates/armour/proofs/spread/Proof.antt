@@ -1,4 +1,4 @@
--- `spread`: the groups, and then up to two bytes more, each behind those that stand there. Assumes nothing.
+-- `spread`: the groups, and then up to two bytes more, each after those that stand there. Assumes nothing.
 use mathlib.Core.Path.{_≡_}
 use mathlib.Core.List.{List, _++_}
 use Prim.Native.Nat.{ℕ, _+_, _*_, _/_, _≤_}
@@ -12,7 +12,7 @@ use borrow.Author.Needs.{needs}
 use Rattle.armour.proofs.spread.Statement.{statement}
 use Rattle.armour.proofs.spread.Tie as tie
 
--- one byte behind j bytes, and two
+-- one byte after j bytes, and two
 module _ (f : ℕ → ℕ) (j need : ℕ) (d out : List ℕ) (x : ℕ) where
   rest-one : need ≡ j + 1 → need ≤ length d → out ≡ pack 8 j f ++ drop j d → x ≡ val f (j * 8) 8 → set out j x ≡ pack 8 need f ++ drop need d
   rest-one n h e p = rw (n, e, p, pack-set 8 j f d (omega arith))
@@ -35,9 +35,11 @@ same-length c = search needs
 
 returns : tie.Need-returns
 returns c =
-    let a = c .before .before .before .before .before .before .before .before .before .before .args in
+    let at-put-groups = c .before .before .before in
+    let at-put-sixes = at-put-groups .before .before .before in
+    let a = at-put-sixes .before .before .before .before .args in
     let e : a .need / 3 * 3 ≡ a .need = omega (arith, c .if1 .taken) in
-    rw (← e) (c .before .before .before .put-groups .ensures (stream (a .payload .now) (a .fill)) (c .before .before .before .before .before .before .put-sixes .ensures))
+    rw (← e) (at-put-groups .put-groups .ensures (stream (a .payload .now) (a .fill)) (at-put-sixes .put-sixes .ensures))
 
 mul-four-at : tie.Need-mul-four-at
 mul-four-at c = search needs
@@ -59,12 +61,15 @@ same-length-2 c = search needs
 
 returns-2 : tie.Need-returns-2
 returns-2 c =
-    let i = c .before .before .before .before .before .before .before .before .before .before .before .before .before in
+    let at-if1 = c .before .before .before in
+    let at-put-groups = at-if1 .before .before .before in
+    let at-put-sixes = at-put-groups .before .before .before in
+    let i = at-put-sixes .before .before .before .before in
     let a = i .args in
     let f = stream (a .payload .now) (a .fill) in
-    let s = c .before .before .before .before .before .before .before .before .before .put-sixes .ensures in
+    let s = at-put-sixes .put-sixes .ensures in
     let g = a .need / 3 in
-    rest-one f (g * 3) (a .need) (a .out .now) _ _ (omega (arith, c .if2 .taken, c .before .before .before .if1 .left)) (i .pre .1 .1) (c .before .before .before .before .before .before .put-groups .ensures f s)
+    rest-one f (g * 3) (a .need) (a .out .now) _ _ (omega (arith, c .if2 .taken, at-if1 .if1 .left)) (i .pre .1 .1) (at-put-groups .put-groups .ensures f s)
     (val-field f (s .bit) (g * 4 * 6) 0 8 16 24 (g * 3 * 8) (c .before .four-at .ensures f s) (omega arith) (omega arith))
 
 cast-out-2 : tie.Need-cast-out-2
@@ -81,13 +86,15 @@ same-length-3 c = search needs
 
 returns-3 : tie.Need-returns-3
 returns-3 c =
-    let i = c .before .before .before .before .before .before .before .before .before .before .before .before .before in
+    let at-put-groups = c .before .before .before .before .before .before in
+    let at-put-sixes = at-put-groups .before .before .before in
+    let i = at-put-sixes .before .before .before .before in
     let a = i .args in
     let f = stream (a .payload .now) (a .fill) in
-    let s = c .before .before .before .before .before .before .before .before .before .put-sixes .ensures in
+    let s = at-put-sixes .put-sixes .ensures in
     let g = a .need / 3 in
     let four = c .before .four-at .ensures f s in
-    rest-two f (g * 3) (a .need) (a .out .now) _ _ _ (omega (arith, c .if2 .left)) (i .pre .1 .1) (c .before .before .before .before .before .before .put-groups .ensures f s)
+    rest-two f (g * 3) (a .need) (a .out .now) _ _ _ (omega (arith, c .if2 .left)) (i .pre .1 .1) (at-put-groups .put-groups .ensures f s)
     (val-field f (s .bit) (g * 4 * 6) 0 8 16 24 (g * 3 * 8) four (omega arith) (omega arith))
     (val-field f (s .bit) (g * 4 * 6) 8 8 8 24 ((g * 3 + 1) * 8) four (omega arith) (omega arith))
 

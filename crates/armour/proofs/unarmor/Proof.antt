@@ -49,8 +49,10 @@ returns-5 : tie.Need-returns-5
 returns-5 c =
     let t = c .before in
     let g = t .before in
+    let at-joined2 = g .before .before .before in
     answered-by _ _ _ (refused 8 (_ ∷ []))
-    (says-8 _ _ _ (fill-good (g .before .before .before)) (g .before .before .if4 .left) (g .before .if5 .left) (leb-false _ _ (sym (g .all-armour .ensures) ∙ not-true _ (t .if6 .taken))))
+    (says-8 _ _ _ (fill-good at-joined2) (g .before .before .if4 .left) (g .before .if5 .left)
+    (leb-false _ _ (sym (g .all-armour .ensures) ∙ not-true _ (t .if6 .taken))))
     (ap (λ (x : ℕ). refused 8 (x ∷ [])) (c .first-bad .ensures)) refl
 
 spread-requires : tie.Need-spread-requires
@@ -65,8 +67,10 @@ returns-6 : tie.Need-returns-6
 returns-6 c =
     let o = c .before .before .before .before in
     let g = o .before in
+    let at-joined2 = g .before .before .before in
     answered-by _ _ _ (taken _)
-    (says-taken _ _ _ (fill-good (g .before .before .before)) (g .before .before .if4 .left) (g .before .if5 .left) (leb-true _ _ (sym (g .all-armour .ensures) ∙ not-false _ (o .if6 .left))))
+    (says-taken _ _ _ (fill-good at-joined2) (g .before .before .if4 .left) (g .before .if5 .left)
+    (leb-true _ _ (sym (g .all-armour .ensures) ∙ not-false _ (o .if6 .left))))
     refl (rw unarmored-length (c .before .before .spread .ensures))
 
 pub unarmor-spec : {M : Type 1} → statement M

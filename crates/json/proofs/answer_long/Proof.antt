@@ -1,7 +1,8 @@
 -- `json::answer_long` meets its contract. Assumes nothing.
-use mathlib.Core.Path.{ap}
-use Rattle.text_out.specs.Text.{Text}
+use mathlib.Core.Path.{ap, _∙_}
+use Rattle.text_out.specs.Text.{Text, text, put}
 use borrow.Author.Needs.{needs}
+use Rattle.json.proofs.Refused.{long-said}
 use Rattle.json.proofs.answer_long.Statement.{statement}
 use Rattle.json.proofs.answer_long.Tie as tie
 
@@ -17,8 +18,10 @@ same-length c = search needs
 returns : tie.Need-returns
 returns c =
     let counted = c .before .before .before .before in
-    let s = counted .before .before .before .args in (
-      ap (λ (t : Text). record { state = s .s .state; out = t }) (c .before .before .put-long .ensures),
+    let s = counted .before .before .before .args in
+    let before = text (s .s .used) (s .out .now) in
+    let put-said = c .before .before .put-long .ensures ∙ ap (put before) (long-said (counted .following .result)) in (
+      ap (λ (t : Text). record { state = s .s .state; out = t }) put-said,
       counted .following .ensures,
     )
 

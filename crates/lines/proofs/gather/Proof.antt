@@ -31,15 +31,18 @@ same-length c = search needs
 -- the end that is reached, where no byte stands before it
 ended : (c : tie.At-loop Inv-loop μ-loop) → untilLF (drop (c .loop .i) (c .before .before .before .args .block .now)) ≡ []
     → record { at = c .loop .i; kept = record { len = c .loop .n; line = c .loop .line } }
-    ≡ reach (c .before .before .before .args .most) (c .before .before .before .args .block .now) (c .before .before .before .args .from) (c .before .before .before .args .len) (c .before .before .before .args .line .now)
+    ≡ reach (c .before .before .before .args .most) (c .before .before .before .args .block .now) (c .before .before .before .args .from)
+    (c .before .before .before .args .len) (c .before .before .before .args .line .now)
 ended c e =
     let s = c .before .before .before in
-    sym (reach-stop (s .args .most) (s .args .block .now) (c .loop .i) (c .loop .n) (c .loop .line) (omega (arith, s .pre .room)) (c .loop .inv .2) e) ∙ c .loop .inv .0
+    sym (reach-stop (s .args .most) (s .args .block .now) (c .loop .i) (c .loop .n) (c .loop .line) (omega (arith, s .pre .room)) (c .loop .inv .2) e)
+    ∙ c .loop .inv .0
 
 returns : tie.Need-returns Inv-loop μ-loop
 returns c =
-    let s = c .before .before .before .before .before .before in
-    let e = ended (c .before .before .before) (until-here (s .args .block .now) (c .before .before .before .loop .i) (omega arith) (c .if1 .taken)) in
+    let at-loop = c .before .before .before in
+    let s = at-loop .before .before .before in
+    let e = ended at-loop (until-here (s .args .block .now) (at-loop .loop .i) (omega arith) (c .if1 .taken)) in
     (ap (λ (r : Reach). r .at) e, ap (λ (r : Reach). r .kept) e)
 
 push-requires : tie.Need-push-requires Inv-loop μ-loop
@@ -53,12 +56,14 @@ loop-less c = search needs
 
 loop-again : tie.Need-loop-again Inv-loop μ-loop
 loop-again c =
-    let s = c .before .before .before .before .before .before .before .before .before .before in
-    let l = c .before .before .before .before .before .before .before .loop in
+    let at-if1 = c .before .before .before .before in
+    let at-loop = at-if1 .before .before .before in
+    let s = at-loop .before .before .before in
+    let l = at-loop .loop in
     let room : s .args .most ≤ length (l .line) = omega (arith, s .pre .room) in
     let h = heldOf (s .args .most) (l .n) (l .line) ++ getD (s .args .block .now) (l .i) 0 ∷ [] in
     let e = c .before .before .push .ensures in (
-      reach-next (s .args .most) (s .args .block .now) (l .i) (l .n) (l .line) room (omega arith) (c .before .before .before .before .if1 .left) _ _ e ∙ l .inv .0,
+      reach-next (s .args .most) (s .args .block .now) (l .i) (l .n) (l .line) room (omega arith) (at-if1 .if1 .left) _ _ e ∙ l .inv .0,
       kept-length (s .args .most) h (l .line) room _ _ e ∙ l .inv .1,
       kept-few (s .args .most) h (l .line) room _ _ e,
     )

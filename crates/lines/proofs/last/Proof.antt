@@ -30,10 +30,12 @@ ended-requires c κs = search needs
 returns-3 : tie.Need-returns-3
 unfolding lastOf
 returns-3 c =
-    let s = c .before .before .before .before .before .before in
-    rw (le-ltb _ _ (c .before .before .before .before .if1 .left), ne-eqb _ _ (c .before .before .if2 .left))
+    let at-if1 = c .before .before .before .before in
+    let s = at-if1 .before .before in
+    rw (le-ltb _ _ (at-if1 .if1 .left), ne-eqb _ _ (c .before .before .if2 .left))
     (c .ended .ensures ∙ ap (λ (h : List ℕ). eventOf (s .args .most) (s .args .strip) h 0)
-    (ap (λ (n : ℕ). heldOf (s .args .most) n (s .args .line .now)) (c .before .least .ensures) ∙ held-cap (s .args .most) (s .args .state .len) (s .args .line .now) (c .before .before .before .before .if1 .left)))
+    (ap (λ (n : ℕ). heldOf (s .args .most) n (s .args .line .now)) (c .before .least .ensures)
+    ∙ held-cap (s .args .most) (s .args .state .len) (s .args .line .now) (at-if1 .if1 .left)))
 
 pub last-spec : {M : Type 1} → statement M
 last-spec =

@@ -17,7 +17,8 @@ returns c = no-position latitudeAbsent (c .before .args .raw) (record { sfits = 
 returns-2 : tie.Need-returns-2
 returns-2 c =
     let start = c .before .before in
-    a-position latitudeAbsent (start .args .raw) (c .degrees .result) (c .before .match .rest .1) (c .degrees .ensures ∙ ap degreesOf (toZ-ofZ (start .fits .raw)))
+    a-position latitudeAbsent (start .args .raw) (c .degrees .result) (c .before .match .rest .1)
+    (c .degrees .ensures ∙ ap degreesOf (toZ-ofZ (start .fits .raw)))
 
 pub parse-latitude-spec : {M : Type 1} → statement M
 parse-latitude-spec = tie.close (tie.spec degrees-requires returns returns-2)

@@ -45,9 +45,11 @@ loop-again c =
     let a = i .args in
     let next : a .at + (l .k + 1) ≡ a .at + l .k + 1 = omega arith in
     let inside : a .at + l .k < length (a .line .now) = omega (arith, i .pre, c .before .loop-test .taken) in
-    let summed : sumFrom (bitXor (l .sum) (getD (a .line .now) (a .at + l .k) 0)) (a .line .now) (a .at + (l .k + 1)) (a .at + a .n) ≡ sumFrom 0 (a .line .now) (a .at) (a .at + a .n) =
+    let summed : sumFrom (bitXor (l .sum) (getD (a .line .now) (a .at + l .k) 0)) (a .line .now) (a .at + (l .k + 1)) (a .at + a .n)
+    ≡ sumFrom 0 (a .line .now) (a .at) (a .at + a .n) =
     rw next (sum-next (l .sum) (a .line .now) (a .at + l .k) (a .at + a .n) (omega arith) (i .pre) ∙ l .inv .0 .0) in
-    let starred = ap (λ (f : Bool). f || eqb (getD (a .line .now) (a .at + l .k) 0) star) (l .inv .1 .0) ∙ among-next star (a .line .now) (a .at) (l .k) inside in
+    let starred =
+    ap (λ (f : Bool). f || eqb (getD (a .line .now) (a .at + l .k) 0) star) (l .inv .1 .0) ∙ among-next star (a .line .now) (a .at) (l .k) inside in
     ((summed, xor-lt 8 _ _ (l .inv .0 .1) (c .shared-slice-known .given (a .at + l .k) .fits)), (starred, omega arith))
 
 returns : tie.Need-returns Inv-loop μ-loop

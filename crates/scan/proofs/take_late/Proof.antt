@@ -32,8 +32,10 @@ returns-3 c = search needs
 
 returns-4 : tie.Need-returns-4
 returns-4 c =
-    let a = c .before .before .before .before .before .before .args in
-    first-is (a .b) (a .line .now) (a .at) _ (omega arith) (omega arith) (c .before .before .before .before .likely .ensures (omega arith)) (sym (c .before .in-block .ensures) ∙ c .if3 .left)
+    let at-likely = c .before .before .before .before in
+    let a = at-likely .before .before .args in
+    first-is (a .b) (a .line .now) (a .at) _ (omega arith) (omega arith) (at-likely .likely .ensures (omega arith))
+    (sym (c .before .in-block .ensures) ∙ c .if3 .left)
 
 pub take-late-spec : {M : Type 1} → statement M
 take-late-spec =

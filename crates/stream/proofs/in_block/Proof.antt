@@ -13,8 +13,8 @@ slice-aggregate-collect-to c = search needs
 collect-to-requires : tie.Need-collect-to-requires
 collect-to-requires c κs = search needs
 
-place-requires : tie.Need-place-requires
-place-requires c κs = search needs
+next-from-requires : tie.Need-next-from-requires
+next-from-requires c κs = search needs
 
 next-by-requires : tie.Need-next-by-requires
 next-by-requires c κs = search needs
@@ -24,11 +24,13 @@ same-length c = search needs
 
 returns : tie.Need-returns
 returns c =
-    let s = c .before .before .before .before .before .before .before .before .before .before .args in
+    let at-collect-to = c .before .before .before .before in
+    let at-up-to = at-collect-to .before .before .before in
+    let s = at-up-to .before .before .before .args in
     given (s .most) (s .strip) (s .input) (s .block .now) (s .line .now) _ _
-    (c .before .before .before .before .before .before .before .up-to .ensures .0)
-    (c .before .before .before .before .collect-to .ensures)
-    (c .before .place .ensures)
+    (at-up-to .up-to .ensures .0)
+    (at-collect-to .collect-to .ensures)
+    (c .before .next-from .ensures)
     (c .next-by .ensures)
 
 pub in-block-spec : {M : Type 1} → statement M
@@ -38,7 +40,7 @@ in-block-spec =
     up-to-requires
     slice-aggregate-collect-to
     collect-to-requires
-    place-requires
+    next-from-requires
     next-by-requires
     same-length
     returns)

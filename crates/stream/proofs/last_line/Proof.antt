@@ -14,7 +14,9 @@ next-by-requires : tie.Need-next-by-requires
 next-by-requires c κs = search needs
 
 returns : tie.Need-returns
-returns c = ap (λ (n : Next). record { input = record { held = 0; from = 0; filled = 0; more = false }; next = n }) (c .next-by .ensures ∙ ap nextBy (c .before .last .ensures))
+returns c =
+    ap (λ (n : Next). record { input = record { held = 0; from = 0; filled = 0; more = false }; next = n })
+    (c .next-by .ensures ∙ ap nextBy (c .before .last .ensures))
 
 pub last-line-spec : {M : Type 1} → statement M
 last-line-spec = tie.close (tie.spec last-requires next-by-requires returns)

@@ -23,8 +23,10 @@ same-length-2 c = search needs
 
 returns : tie.Need-returns
 returns c =
-    kept-nothing _ _ (sym (ap (λ (g : Given). g .taken .next) (c .before .before .before .before .before .before .before .before .before .in-block .ensures))
-    ∙ c .before .before .before .before .before .enum-told .given .1)
+    let at-enum-told = c .before .before .before .before .before in
+    let at-in-block = at-enum-told .before .before .before .before in
+    kept-nothing _ _ (sym (ap (λ (g : Given). g .taken .next) (at-in-block .in-block .ensures))
+    ∙ at-enum-told .enum-told .given .1)
 
 same-length-3 : tie.Need-same-length-3
 same-length-3 c = search needs

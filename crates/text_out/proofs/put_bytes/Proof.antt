@@ -31,8 +31,10 @@ same-length c = search needs
 
 returns : tie.Need-returns
 returns c =
-    let s = c .before .before .before .before .before .before .before .before in
-    copied-put (s .args .at) (s .args .out .now) (s .args .s .now) (omega (arith, c .before .before .before .before .before .if1 .taken, c .before .before .before .before .if2 .taken)) _ (c .before .before .copy .ensures .1) _ refl
+    let at-if2 = c .before .before .before .before in
+    let s = at-if2 .before .before .before .before in
+    copied-put (s .args .at) (s .args .out .now) (s .args .s .now) (omega (arith, at-if2 .before .if1 .taken, at-if2 .if2 .taken)) _
+    (c .before .before .copy .ensures .1) _ refl
 
 put-some-requires : tie.Need-put-some-requires
 put-some-requires c κs = search needs

@@ -43,11 +43,15 @@ loop-less c = search needs
 
 loop-again : tie.Need-loop-again Inv-loop μ-loop
 loop-again c =
-    let s = c .before .before .before .before .before .before .before .before .before .before .before .before .before .before .before .args in
-    let l = c .before .before .before .before .before .before .before .before .before .before .before .before .loop in
-    let e = c .before .before .before .before .before .before .before .put-byte .ensures in
+    let at-digit-of2 = c .before .before .before in
+    let at-put-byte = at-digit-of2 .before .before .before .before in
+    let at-loop = at-put-byte .before .before .before .before .before in
+    let s = at-loop .before .before .before .args in
+    let l = at-loop .loop in
+    let e = at-put-byte .put-byte .ensures in
     let f = c .before .before .put-byte2 .ensures in (
-      hex-step (text (l .p) (l .out)) _ _ (s .s .now) (l .i) (omega arith) _ _ _ (c .before .before .before .before .before .before .before .before .digit-of .ensures) e (c .before .before .before .digit-of2 .ensures) f (l .inv .0),
+      hex-step (text (l .p) (l .out)) _ _ (s .s .now) (l .i) (omega arith) _ _ _ (at-put-byte .before .digit-of .ensures) e (at-digit-of2 .digit-of2 .ensures) f
+          (l .inv .0),
       ap (λ (t : Text). length (t .bytes)) f ∙ put-length _ _ ∙ ap (λ (t : Text). length (t .bytes)) e ∙ put-length (text (l .p) (l .out)) _ ∙ l .inv .1,
     )
 

@@ -33,8 +33,9 @@ loop-less c = search needs
 
 loop-again : tie.Need-loop-again Inv-loop μ-loop
 loop-again c =
-    let s = c .before .before .before .before .before .before .before .before .before .args in
-    let l = c .before .before .before .before .before .before .loop in
+    let at-loop = c .before .before .before .before .before .before in
+    let s = at-loop .before .before .before .args in
+    let l = at-loop .loop in
     let e = c .before .before .put-byte .ensures in (
       bytes-step (text (l .p) (l .out)) _ _ (s .s .now) (l .i) (omega arith) e (l .inv .0),
       ap (λ (t : Text). length (t .bytes)) e ∙ put-length (text (l .p) (l .out)) _ ∙ l .inv .1,

@@ -44,9 +44,10 @@ loop-less c = search needs
 
 loop-again : tie.Need-loop-again Inv-loop μ-loop
 loop-again c =
+    let start = c .before .before .before .before in
     let l = c .before .before .loop in
     let t =
-    digits-turn (decimalIn 20 (c .before .before .before .before .args .n)) (l .digits) (c .digit-of .result) (l .rest) (l .i) (omega arith) (l .inv .1) (omega arith)
+    digits-turn (decimalIn 20 (start .args .n)) (l .digits) (c .digit-of .result) (l .rest) (l .i) (omega arith) (l .inv .1) (omega arith)
     (c .digit-of .ensures) (l .inv .0) in
     (t .0, t .1, omega (arith, t .2), omega arith, simp length-set (l .inv .4))
 
@@ -67,8 +68,9 @@ same-length c = simp length-set (c .before .before .loop .inv .4 ∙ sym (c .bef
 
 returns : tie.Need-returns Inv-loop μ-loop
 returns c =
+    let start = c .before .before .before .before in
     let l = c .before .before .loop in (
-      digits-last (decimalIn 20 (c .before .before .before .before .args .n)) (l .digits) (c .digit-of2 .result) (l .rest) (l .i) (l .inv .2) (omega arith) (omega arith)
+      digits-last (decimalIn 20 (start .args .n)) (l .digits) (c .digit-of2 .result) (l .rest) (l .i) (l .inv .2) (omega arith) (omega arith)
           (c .digit-of2 .ensures) (l .inv .0),
       (omega arith, simp length-set (l .inv .4)),
     )

@@ -39,12 +39,14 @@ other-channel-requires c κs = search needs
 returns-4 : tie.Need-returns-4
 unfolding outside
 returns-4 c =
+    let at-unknown-report = c .before .before .before in
+    let at-if1 = at-unknown-report .before .before .before in
     rw (
-      ← c .before .before .before .before .before .before .before .bad-count .ensures,
-      c .before .before .before .before .before .before .if1 .left,
-      ← c .before .before .before .before .before .unknown-talker .ensures,
-      c .before .before .before .before .if2 .left,
-      ← c .before .before .before .unknown-report .ensures,
+      ← at-if1 .before .bad-count .ensures,
+      at-if1 .if1 .left,
+      ← at-unknown-report .before .before .unknown-talker .ensures,
+      at-unknown-report .before .if2 .left,
+      ← at-unknown-report .unknown-report .ensures,
       c .before .before .if3 .left,
       ← c .before .other-channel .ensures,
       c .if4 .taken,
@@ -53,13 +55,15 @@ returns-4 c =
 returns-5 : tie.Need-returns-5
 unfolding outside
 returns-5 c =
+    let at-if3 = c .before .before .before in
+    let at-unknown-talker = at-if3 .before .before .before in
     rw (
-      ← c .before .before .before .before .before .before .before .before .bad-count .ensures,
-      c .before .before .before .before .before .before .before .if1 .left,
-      ← c .before .before .before .before .before .before .unknown-talker .ensures,
-      c .before .before .before .before .before .if2 .left,
-      ← c .before .before .before .before .unknown-report .ensures,
-      c .before .before .before .if3 .left,
+      ← at-unknown-talker .before .before .bad-count .ensures,
+      at-unknown-talker .before .if1 .left,
+      ← at-unknown-talker .unknown-talker .ensures,
+      at-if3 .before .before .if2 .left,
+      ← at-if3 .before .unknown-report .ensures,
+      at-if3 .if3 .left,
       ← c .before .before .other-channel .ensures,
       c .before .if4 .left,
     )

@@ -20,8 +20,9 @@ count-small c = count-range _ _ (c .pre .0) .1
 in-place : (c : tie.Start) → c .args .i ≤ (charsIn (c .args .request .count) + 59) / 60
 in-place c = rw lines-are at (c .pre .1 .1)
 
--- and behind the count of lines
-lines-found : (c : tie.After-lines-in) → c .lines-in .result ≡ linesIn (messageOf (c .before .before .before .args .request) (c .before .before .before .args .bits .now))
+-- and after the count of lines
+lines-found : (c : tie.After-lines-in)
+    → c .lines-in .result ≡ linesIn (messageOf (c .before .before .before .args .request) (c .before .before .before .args .bits .now))
 lines-found c = rw lines-are (c .lines-in .ensures)
 
 lines-in-requires : tie.Need-lines-in-requires
@@ -46,7 +47,9 @@ put-address-requires : tie.Need-put-address-requires
 put-address-requires c κs = search needs
 
 put-numbers-requires : tie.Need-put-numbers-requires
-put-numbers-requires c κs = (omega (arith, count-small (c .before .before .before .before .before .before .before .before), in-place (c .before .before .before .before .before .before .before .before)), (omega (arith, count-small (c .before .before .before .before .before .before .before .before), in-place (c .before .before .before .before .before .before .before .before)), sendable _ _ (c .before .before .before .before .before .before .before .before .pre .0) .digit))
+put-numbers-requires c κs =
+    let start = c .before .before .before .before .before .before .before .before in
+    (omega (arith, count-small start, in-place start), (omega (arith, count-small start, in-place start), sendable _ _ (start .pre .0) .digit))
 
 put-channel-requires : tie.Need-put-channel-requires
 put-channel-requires c κs = search needs
@@ -55,7 +58,9 @@ add-put-payload : tie.Need-add-put-payload
 add-put-payload c = search needs
 
 put-payload-requires : tie.Need-put-payload-requires
-put-payload-requires c κs = (count-small (c .before .before .before .before .before .before .before .before .before .before .before .before .before .before .before .before .before), (omega arith, omega (arith, count-small (c .before .before .before .before .before .before .before .before .before .before .before .before .before .before .before .before .before), in-place (c .before .before .before .before .before .before .before .before .before .before .before .before .before .before .before .before .before))))
+put-payload-requires c κs =
+    let start = c .before .before .before .before .before .before .before .before .before .before .before .before .before .before .before .before .before in
+    (count-small start, (omega arith, omega (arith, count-small start, in-place start)))
 
 put-fill-requires : tie.Need-put-fill-requires
 put-fill-requires c κs = search needs
@@ -65,17 +70,26 @@ same-length c = search needs
 
 returns : tie.Need-returns
 returns c =
-    let s = c .before .before .before .before .before .before .before .before .before .before .before .before .before .before .before .before .before .before .before .before .before .before .before .before in
+    let at-put-payload = c .before .before .before .before .before .before in
+    let at-put-channel = at-put-payload .before .before .before .before .before in
+    let at-put-numbers = at-put-channel .before .before .before .before in
+    let at-put-address = at-put-numbers .before .before .before .before in
+    let at-lines-in = at-put-address .before .before in
+    let s = at-lines-in .before .before .before in
     let q = s .args .request in
     let d = s .args .bits .now in
     let i = s .args .i in
-    let l = c .before .before .before .before .before .before .before .before .before .before .before .before .before .before .before .before .before .before .before .before .before .lines-in in
+    let l = at-lines-in .lines-in in
     let x = text 0 (s .args .out .now) in
-    put-pieces x (said q (l .result) i (slice (60 * (i - 1)) (60 * (i - 1) + 60) (armoured d (q .count))) 0) (c .before .before .before .before .before .before .before .before .before .before .before .before .before .before .before .before .before .before .before .put-address .ensures) (c .before .before .before .before .before .before .before .before .before .before .before .before .before .before .before .put-numbers .ensures) (c .before .before .before .before .before .before .before .before .before .before .before .put-channel .ensures) (c .before .before .before .before .before .before .put-payload .ensures) (c .before .before .put-fill .ensures)
-    ∙ ap (λ (p : Parts). put x (bodyText p)) (inner-line q (l .result) i d (lines-found (c .before .before .before .before .before .before .before .before .before .before .before .before .before .before .before .before .before .before .before .before .before)) (s .pre .1 .0) (c .before .before .before .before .before .before .before .before .if1 .taken))
+    put-pieces x (said q (l .result) i (slice (60 * (i - 1)) (60 * (i - 1) + 60) (armoured d (q .count))) 0) (at-put-address .put-address .ensures)
+    (at-put-numbers .put-numbers .ensures) (at-put-channel .put-channel .ensures) (at-put-payload .put-payload .ensures) (c .before .before .put-fill .ensures)
+    ∙ ap (λ (p : Parts). put x (bodyText p))
+    (inner-line q (l .result) i d (lines-found at-lines-in) (s .pre .1 .0) (at-put-payload .before .before .if1 .taken))
 
 put-payload-requires-2 : tie.Need-put-payload-requires-2
-put-payload-requires-2 c κs = (count-small (c .before .before .before .before .before .before .before .before .before .before .before .before .before .before .before .before .before), (omega (arith, count-small (c .before .before .before .before .before .before .before .before .before .before .before .before .before .before .before .before .before), in-place (c .before .before .before .before .before .before .before .before .before .before .before .before .before .before .before .before .before)), omega arith))
+put-payload-requires-2 c κs =
+    let start = c .before .before .before .before .before .before .before .before .before .before .before .before .before .before .before .before .before in
+    (count-small start, (omega (arith, count-small start, in-place start), omega arith))
 
 put-fill-requires-2 : tie.Need-put-fill-requires-2
 put-fill-requires-2 c κs = search needs
@@ -85,15 +99,22 @@ same-length-2 c = search needs
 
 returns-2 : tie.Need-returns-2
 returns-2 c =
-    let s = c .before .before .before .before .before .before .before .before .before .before .before .before .before .before .before .before .before .before .before .before .before .before .before .before in
+    let at-put-payload2 = c .before .before .before .before .before .before in
+    let at-put-channel = at-put-payload2 .before .before .before .before .before in
+    let at-put-numbers = at-put-channel .before .before .before .before in
+    let at-put-address = at-put-numbers .before .before .before .before in
+    let at-lines-in = at-put-address .before .before in
+    let s = at-lines-in .before .before .before in
     let q = s .args .request in
     let d = s .args .bits .now in
     let i = s .args .i in
-    let l = c .before .before .before .before .before .before .before .before .before .before .before .before .before .before .before .before .before .before .before .before .before .lines-in in
+    let l = at-lines-in .lines-in in
     let x = text 0 (s .args .out .now) in
     let at-last : i ≡ l .result = omega (arith, in-place s, l .ensures) in
-    put-pieces x (said q (l .result) i (slice (60 * (i - 1)) (charsIn (q .count)) (armoured d (q .count))) (fillIn (q .count))) (c .before .before .before .before .before .before .before .before .before .before .before .before .before .before .before .before .before .before .before .put-address .ensures) (c .before .before .before .before .before .before .before .before .before .before .before .before .before .before .before .put-numbers .ensures) (c .before .before .before .before .before .before .before .before .before .before .before .put-channel .ensures) (c .before .before .before .before .before .before .put-payload2 .ensures) (c .before .before .put-fill2 .ensures)
-    ∙ ap (λ (p : Parts). put x (bodyText p)) (last-line q (l .result) i d (lines-found (c .before .before .before .before .before .before .before .before .before .before .before .before .before .before .before .before .before .before .before .before .before)) (s .pre .1 .0) at-last)
+    put-pieces x (said q (l .result) i (slice (60 * (i - 1)) (charsIn (q .count)) (armoured d (q .count))) (fillIn (q .count)))
+    (at-put-address .put-address .ensures) (at-put-numbers .put-numbers .ensures) (at-put-channel .put-channel .ensures)
+    (at-put-payload2 .put-payload2 .ensures) (c .before .before .put-fill2 .ensures)
+    ∙ ap (λ (p : Parts). put x (bodyText p)) (last-line q (l .result) i d (lines-found at-lines-in) (s .pre .1 .0) at-last)
 
 pub put-body-spec : {M : Type 1} → statement M
 put-body-spec =

@@ -34,21 +34,26 @@ loop-holds c =
 
 put-line-requires : tie.Need-put-line-requires Inv-loop μ-loop
 put-line-requires c κs =
+    let start = c .before .before .before .before .before .before in
     let l = c .before .before .loop in
-    (c .before .before .before .before .before .before .pre, (l .inv .1 .0, omega arith))
+    (start .pre, (l .inv .1 .0, omega arith))
 
 add-i : tie.Need-add-i Inv-loop μ-loop
-add-i c = omega (arith, few-lines _ (sendable _ _ (c .before .before .before .before .before .before .before .before .before .pre)))
+add-i c =
+    let start = c .before .before .before .before .before .before .before .before .before in
+    omega (arith, few-lines _ (sendable _ _ (start .pre)))
 
 loop-less : tie.Need-loop-less Inv-loop μ-loop
 loop-less c = search needs
 
 loop-again : tie.Need-loop-again Inv-loop μ-loop
 loop-again c =
-    let s = c .before .before .before .before .before .before .before .before .before in
-    let l = c .before .before .before .before .before .loop in
+    let at-loop-test = c .before .before .before .before in
+    let s = at-loop-test .before .before .before .before .before in
+    let l = at-loop-test .before .loop in
     let e = c .before .before .put-line .ensures in (
-      lines-step (text (l .p) (l .out)) (messageOf (s .args .request) (s .args .bits .now)) (c .before .before .before .before .before .before .lines-in .result) (l .i) (c .before .before .before .before .loop-test .taken) e (l .inv .0),
+      lines-step (text (l .p) (l .out)) (messageOf (s .args .request) (s .args .bits .now)) (at-loop-test .before .before .lines-in .result) (l .i)
+          (at-loop-test .loop-test .taken) e (l .inv .0),
       (omega arith, (omega arith, (l .inv .1 .1 .1 .0, ap (λ (t : Text). length (t .bytes)) e ∙ put-length (text (l .p) (l .out)) _ ∙ l .inv .1 .1 .1 .1))),
     )
 
@@ -57,8 +62,11 @@ same-length c = search needs
 
 returns : tie.Need-returns Inv-loop μ-loop
 returns c =
+    let start = c .before .before .before .before .before in
     let l = c .before .loop in
-    sym (lines-end (text (l .p) (l .out)) (messageOf (c .before .before .before .before .before .args .request) (c .before .before .before .before .before .args .bits .now)) (c .before .before .lines-in .result) (l .i) (c .loop-test .left)) ∙ l .inv .0
+    sym (lines-end (text (l .p) (l .out)) (messageOf (start .args .request) (start .args .bits .now)) (c .before .before .lines-in .result) (l .i)
+    (c .loop-test .left))
+    ∙ l .inv .0
 
 pub put-lines-spec : {M : Type 1} → statement M
 put-lines-spec =

@@ -41,8 +41,10 @@ same-length-2 c = search needs
 
 returns-2 : tie.Need-returns-2
 returns-2 c =
-    let s = c .before .before .before .before .before .before .before .before .before .before .before .args in
-    rw (ne-eqb _ 1 (c .before .before .before .before .if1 .left)) (put-then (text (s .at) (s .out .now)) _ _ (c .before .before .before .before .before .before .before .put-bytes .ensures) (c .before .before .put-byte .ensures))
+    let at-if1 = c .before .before .before .before in
+    let at-put-bytes = at-if1 .before .before .before in
+    let s = at-put-bytes .before .before .before .before .args in
+    rw (ne-eqb _ 1 (at-if1 .if1 .left)) (put-then (text (s .at) (s .out .now)) _ _ (at-put-bytes .put-bytes .ensures) (c .before .before .put-byte .ensures))
 
 pub put-numbers-spec : {M : Type 1} → statement M
 put-numbers-spec =

@@ -15,7 +15,8 @@ use Rattle.writer.proofs.put_payload.Statement.{statement}
 use Rattle.writer.proofs.put_payload.Tie as tie
 
 abbrev Inv-loop : tie.InvT-loop
-Inv-loop out₀ at bits count from to p₀ i₀ out p i = (put (text p out) (slice i to (armoured bits count)) ≡ put (text at out₀) (slice from to (armoured bits count))) × ((i ≤ to) × (length out ≡ length out₀))
+Inv-loop out₀ at bits count from to p₀ i₀ out p i =
+    (put (text p out) (slice i to (armoured bits count)) ≡ put (text at out₀) (slice from to (armoured bits count))) × ((i ≤ to) × (length out ≡ length out₀))
 
 abbrev μ-loop : tie.MeasureT-loop
 μ-loop out₀ at bits count from to p₀ i₀ out p i = to - i
@@ -37,13 +38,17 @@ loop-less c = search needs
 
 loop-again : tie.Need-loop-again Inv-loop μ-loop
 loop-again c =
-    let s = c .before .before .before .before .before .before .before .before .before .args in
-    let l = c .before .before .before .before .before .before .loop in
+    let at-char-at = c .before .before .before in
+    let at-loop = at-char-at .before .before .before in
+    let s = at-loop .before .before .before .args in
+    let l = at-loop .loop in
     let e = c .before .before .put-byte .ensures in
     let a = armoured (s .bits .now) (s .count) in
     let n : length (take (s .to) a) ≡ s .to = length-take-le (s .to) a (omega (arith, length-armoured (s .bits .now) (s .count))) in (
       bytes-step (text (l .p) (l .out)) _ _ (take (s .to) a) (l .i) (omega arith)
-          (e ∙ ap (λ (b : ℕ). put (text (l .p) (l .out)) (b ∷ [])) (c .before .before .before .char-at .ensures ∙ sym (getD-take (s .to) a (l .i) 0 (c .before .before .before .before .before .loop-test .taken)))) (l .inv .0),
+          (e ∙ ap (λ (b : ℕ). put (text (l .p) (l .out)) (b ∷ []))
+          (at-char-at .char-at .ensures ∙ sym (getD-take (s .to) a (l .i) 0 (at-char-at .before .before .loop-test .taken))))
+          (l .inv .0),
       (omega arith, ap (λ (t : Text). length (t .bytes)) e ∙ put-length (text (l .p) (l .out)) _ ∙ l .inv .1 .1),
     )
 

@@ -25,7 +25,9 @@ module _ (c : tie.After-beside) where
   small : c .before .before .lines-in .result * c .beside .result ≤ 154
   small = lines-small _ _ (inside (c .before .before .before)) _ _ (c .before .before .lines-in .ensures) (c .beside .ensures)
 
-  need-is : c .before .before .lines-in .result * c .beside .result + (c .before .before .before .before .before .before .before .args .request .count + 5) / 6 ≡ length (textAll (messageOf (c .before .before .before .before .before .before .before .args .request) (c .before .before .before .before .before .before .before .args .bits .now)))
+  need-is : c .before .before .lines-in .result * c .beside .result + (c .before .before .before .before .before .before .before .args .request .count + 5) / 6
+      ≡ length (textAll (messageOf (c .before .before .before .before .before .before .before .args .request)
+      (c .before .before .before .before .before .before .before .args .bits .now)))
   need-is = length-found _ _ (inside (c .before .before .before)) _ _ (c .before .before .lines-in .ensures) (c .beside .ensures)
 
 is-outside-requires : tie.Need-is-outside-requires
@@ -50,7 +52,9 @@ add-need : tie.Need-add-need
 add-need c = omega (arith, small c, count-range _ _ (inside (c .before .before .before)) .1)
 
 returns-2 : tie.Need-returns-2
-returns-2 c = answered-by _ _ _ (refused 12 []) (says-12 _ _ _ (inside (c .before .before .before .before)) (omega (arith, need-is (c .before), c .if2 .taken))) refl refl
+returns-2 c =
+    let at-if1 = c .before .before .before .before in
+    answered-by _ _ _ (refused 12 []) (says-12 _ _ _ (inside at-if1) (omega (arith, need-is (c .before), c .if2 .taken))) refl refl
 
 put-lines-requires : tie.Need-put-lines-requires
 put-lines-requires c κs = inside (c .before .before .before .before .before)
@@ -60,9 +64,13 @@ same-length c = search needs
 
 returns-3 : tie.Need-returns-3
 returns-3 c =
-    let b = inside (c .before .before .before .before .before .before .before .before) in
+    let at-if2 = c .before .before .before .before in
+    let at-if1 = at-if2 .before .before .before .before in
+    let start = at-if1 .before .before .before .before in
+    let b = inside at-if1 in
     let p = c .before .before .put-lines in
-    let room : length (textAll (messageOf (c .before .before .before .before .before .before .before .before .before .before .before .before .args .request) (c .before .before .before .before .before .before .before .before .before .before .before .before .args .bits .now))) ≤ length (c .before .before .before .before .before .before .before .before .before .before .before .before .args .out .now) = omega (arith, need-is (c .before .before .before .before .before), c .before .before .before .before .if2 .left) in
+    let room : length (textAll (messageOf (start .args .request) (start .args .bits .now))) ≤ length (start .args .out .now) =
+    omega (arith, need-is (at-if2 .before), at-if2 .if2 .left) in
     answered-by _ _ _ (taken _) (says-taken _ _ _ b room) (ap taken (told-length _ _ _ _ (p .ensures) room)) (stands-first _ _ _ _ (p .ensures) room)
 
 pub write-spec : {M : Type 1} → statement M

@@ -28,8 +28,11 @@ same-length c = search needs
 
 returns : tie.Need-returns
 returns c =
-    let s = c .before .before .before .before .before .before .before .before .before .before .before .before .before .args in
-    rw (c .before .before .before .before .before .before .before .before .before .before .before .talker-letters .ensures, c .before .before .before .before .before .before .before .before .before .before .report-letters .ensures) (put-then (text (s .at) (s .out .now)) _ _ (c .before .before .before .before .before .before .before .put-letters .ensures) (c .before .before .put-letters2 .ensures))
+    let at-put-letters = c .before .before .before .before .before .before .before in
+    let at-report-letters = at-put-letters .before .before .before in
+    let s = at-report-letters .before .before .before .args in
+    rw (at-report-letters .before .talker-letters .ensures, at-report-letters .report-letters .ensures)
+    (put-then (text (s .at) (s .out .now)) _ _ (at-put-letters .put-letters .ensures) (c .before .before .put-letters2 .ensures))
 
 pub put-address-spec : {M : Type 1} → statement M
 put-address-spec =

@@ -16,7 +16,9 @@ same-length : tie.Need-same-length
 same-length c = search needs
 
 returns : tie.Need-returns
-returns c = rw (c .before .before .before .before .before .before .channel .given .1) (c .before .before .put-bytes .ensures)
+returns c =
+    let at-channel = c .before .before .before .before .before .before in
+    rw (at-channel .channel .given .1) (c .before .before .put-bytes .ensures)
 
 enum-told : tie.Need-enum-told
 enum-told c = search needs

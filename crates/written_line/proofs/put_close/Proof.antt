@@ -19,7 +19,10 @@ same-length : tie.Need-same-length
 same-length c = search needs
 
 returns : tie.Need-returns
-returns c = rw (← c .before .before .before .before .before .before .hex-digit .ensures, ← c .before .before .before .before .before .hex-digit2 .ensures) (c .before .before .put-bytes .ensures)
+returns c =
+    let at-hex-digit2 = c .before .before .before .before .before in
+    rw (← at-hex-digit2 .before .hex-digit .ensures, ← at-hex-digit2 .hex-digit2 .ensures)
+    (c .before .before .put-bytes .ensures)
 
 pub put-close-spec : {M : Type 1} → statement M
 put-close-spec =

@@ -1,4 +1,5 @@
--- `navigation::RateOfTurn::direction` meets its contract. The tests are on what the machine reads back from the field's bits, which is the field. Assumes nothing.
+-- `navigation::RateOfTurn::direction` meets its contract. The tests are on what the machine reads back from the field's bits, which is the field.
+-- Assumes nothing.
 use borrow.Author.Needs.{needs}
 use mathlib.Core.Path.{_≡_}
 use mir.Syntax.{w8}

@@ -1,0 +1,4 @@
+pub mod StaticCounts
+pub mod Counts
+pub mod Textless
+pub mod Unused

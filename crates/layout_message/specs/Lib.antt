@@ -1,0 +1,3 @@
+pub mod Static
+pub mod Asked
+pub mod Message

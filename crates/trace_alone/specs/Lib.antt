@@ -1,0 +1,3 @@
+pub mod Unarmor
+pub mod Message
+pub mod Alone

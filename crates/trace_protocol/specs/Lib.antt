@@ -1,0 +1,3 @@
+pub mod Lend
+pub mod Read
+pub mod Said
