@@ -28,10 +28,10 @@ use Rattle.answer.specs.Answer.{Heard, refuses, completeOf, unfinishedOf, decod
 use Rattle.answer.specs.declared.Decode.{Decode}
 use Rattle.answer.specs.declared.Answer.{Answer}
 use Rattle.ais.specs.Call.{Called, calledIn, fragmentOf, calledBy, calledOf}
-use Rattle.ais.specs.Parts.{checkOf, stepped, handing, receivingOf}
+use Rattle.ais.specs.Parts.{checkOf, stepped, handing, handingOf}
 use Rattle.ais.specs.declared.Stepped.{Stepped}
 use Rattle.ais.proofs.Called.{line-refused, its-given, its-large, line-received}
-use Rattle.ais.proofs.Received.{receiving-line, receiving-by, last-room, last-after}
+use Rattle.ais.proofs.Received.{receiving-line, handing-by, last-room, last-after}
 use Rattle.record_bytes.specs.Bytes.{recordIn, recordBytes, loadedOf, storedOf}
 use Rattle.record_bytes.specs.Joined.{Joins}
 use Rattle.record_bytes.proofs.Placed.{joins-as}
@@ -40,7 +40,8 @@ use Rattle.layout_answer.specs.Sentence.{countOf}
 use Rattle.layout_message.specs.Message.{messageTexts}
 use Rattle.layout_answer.specs.Answer.{answerNumbers, Tells, toldIn, toldOf}
 use Rattle.layout_answer.proofs.Counts.{answer-length}
-use Rattle.sumturnip.specs.Calls.{Leaves, Hears, Reads, Ends, freshenedIn, freshenedOf, readIn, flattened, readOf, unarmsIn, unarmsOf}
+use Rattle.layout_told.specs.Told.{Hears}
+use Rattle.sumturnip.specs.Calls.{Leaves, Reads, Ends, freshenedIn, freshenedOf, readIn, flattened, readOf, unarmsIn, unarmsOf}
 
 pub fresh-short : (state : List ℕ) → length state < 400 → freshenedIn 12 state ≡ freshenedOf state
 fresh-short state h = rw (lt-ltb (length state) 400 h)
@@ -129,12 +130,12 @@ module _ (state : List ℕ) (w : 400 ≤ length state) where
   module _ (payload bits : List ℕ) (decode : Decode) where
     module _ (s : AisSentence) (own : List ℕ) where
       leaves-received : (found : Record) → found ≡ loadedOf state → (r : Stepped) (state′ payload′ bits′ : List ℕ)
-          → calledIn r payload′ bits′ ≡ receivingOf found s own decode payload bits
-          → state′ ≡ storedOf (r .state) state → Leaves (receivingOf (recordIn state) s own decode payload bits) state (r .answer) state′ payload′ bits′
+          → calledIn r payload′ bits′ ≡ handingOf found s own decode payload bits
+          → state′ ≡ storedOf (r .state) state → Leaves (handingOf (recordIn state) s own decode payload bits) state (r .answer) state′ payload′ bits′
       leaves-received found f r state′ payload′ bits′ e p =
-          let q : calledIn r payload′ bits′ ≡ receivingOf (recordIn state) s own decode payload bits =
-          e ∙ ap (λ (x : Record). receivingOf x s own decode payload bits) (f ∙ loaded-is) in
-          let z : (receivingOf (recordIn state) s own decode payload bits) .after ≡ r .state = ap (λ (x : Called). x .after) (sym q) in
+          let q : calledIn r payload′ bits′ ≡ handingOf (recordIn state) s own decode payload bits =
+          e ∙ ap (λ (x : Record). handingOf x s own decode payload bits) (f ∙ loaded-is) in
+          let z : (handingOf (recordIn state) s own decode payload bits) .after ≡ r .state = ap (λ (x : Called). x .after) (sym q) in
           record {
             answered = ap (λ (x : Record). calledIn (stepped x (r .answer)) payload′ bits′) z ∙ q;
             stored = p ∙ stored-is (r .state) ∙ ap (λ (x : Record). over (recordBytes x) state) (sym z);
@@ -156,14 +157,14 @@ module _ (state : List ℕ) (w : 400 ≤ length state) where
 
         leaves-by : (t : Told Part) → partIn r ≡ t → (a : Answer) (left : Record) (state′ payload′ bits′ : List ℕ)
             → calledIn (stepped left a) payload′ bits′ ≡ handing t after s own decode payload bits
-            → state′ ≡ storedOf left state → Leaves (receivingOf (recordIn state) s own decode payload bits) state a state′ payload′ bits′
+            → state′ ≡ storedOf left state → Leaves (handingOf (recordIn state) s own decode payload bits) state a state′ payload′ bits′
         leaves-by t e a left state′ payload′ bits′ h p =
             leaves-received (loadedOf state) refl (stepped left a) state′ payload′ bits′
-            (h ∙ receiving-by (loadedOf state) s own joined joined-is t e decode payload bits) p
+            (h ∙ handing-by (loadedOf state) s own joined joined-is t e decode payload bits) p
 
         pub reads-refused : (refusal : Refusal) → partIn r ≡ told refusal → {numbers texts : List ℕ} {code : ℕ} {numbers′ texts′ : List ℕ}
             → toldIn code numbers′ texts′ ≡ toldOf (refuses refusal) numbers texts
-            → Reads (receivingOf (recordIn state) s own decode payload bits) state numbers texts code state₁ payload bits numbers′ texts′
+            → Reads (handingOf (recordIn state) s own decode payload bits) state numbers texts code state₁ payload bits numbers′ texts′
         reads-refused refusal e t =
             record {
               answer = refuses refusal;
@@ -175,7 +176,7 @@ module _ (state : List ℕ) (w : 400 ≤ length state) where
 
         pub reads-unfinished : partIn r ≡ taken Part.Unfinished → {numbers texts : List ℕ} {code : ℕ} {payload′ numbers′ texts′ : List ℕ}
             → Hears (unfinishedOf s own payload bits) numbers texts code payload′ bits numbers′ texts′
-            → Reads (receivingOf (recordIn state) s own decode payload bits) state numbers texts code state₁ payload′ bits numbers′ texts′
+            → Reads (handingOf (recordIn state) s own decode payload bits) state numbers texts code state₁ payload′ bits numbers′ texts′
         reads-unfinished e h =
             record {
               answer = h .answer;
@@ -188,7 +189,7 @@ module _ (state : List ℕ) (w : 400 ≤ length state) where
 
         pub reads-complete : partIn r ≡ taken Part.Alone → {numbers texts : List ℕ} {code : ℕ} {payload′ bits′ numbers′ texts′ : List ℕ}
             → Hears (completeOf s own decode payload bits) numbers texts code payload′ bits′ numbers′ texts′
-            → Reads (receivingOf (recordIn state) s own decode payload bits) state numbers texts code state₁ payload′ bits′ numbers′ texts′
+            → Reads (handingOf (recordIn state) s own decode payload bits) state numbers texts code state₁ payload′ bits′ numbers′ texts′
         reads-complete e h =
             record {
               answer = h .answer;
@@ -236,7 +237,7 @@ module _ (state : List ℕ) (w : 400 ≤ length state) where
 
           pub reads-last : {numbers texts : List ℕ} {code : ℕ} {state′ payload′ bits′ numbers′ texts′ : List ℕ}
               → Ends s decode state₁ payload bits numbers texts code state′ payload′ bits′ numbers′ texts′
-              → Reads (receivingOf (recordIn state) s own decode payload bits) state numbers texts code state′ payload′ bits′ numbers′ texts′
+              → Reads (handingOf (recordIn state) s own decode payload bits) state numbers texts code state′ payload′ bits′ numbers′ texts′
           reads-last h =
               let x = h .hears in
               record {
@@ -260,12 +261,12 @@ module _ (state : List ℕ) (w : 400 ≤ length state) where
 
       leaves-sentence : (s : AisSentence) → checkOf line (length payload) (length bits) ≡ taken (Parsed.Sentence s)
           → (a : Answer) (state′ payload′ bits′ : List ℕ)
-          → Leaves (receivingOf (recordIn state) s (payloadOf line s) decode payload bits) state a state′ payload′ bits′
+          → Leaves (handingOf (recordIn state) s (payloadOf line s) decode payload bits) state a state′ payload′ bits′
           → Leaves (calledOf (recordIn state) line decode payload bits) state a state′ payload′ bits′
       leaves-sentence s e a state′ payload′ bits′ q =
           subst (λ (c : Called). Leaves c state a state′ payload′ bits′)
-          (receiving-line (recordIn state) s (payloadOf line s) decode payload bits record-full (its-given (recordIn state) line decode payload bits s e)
-          (its-large (recordIn state) line decode payload bits s e)
+          (receiving-line (recordIn state) s (payloadOf line s) decode payload bits record-full (its-large (recordIn state) line decode payload bits s e)
+          (its-given (recordIn state) line decode payload bits s e)
           ∙ line-received (recordIn state) line decode payload bits s e)
           q
 
@@ -277,7 +278,7 @@ module _ (state : List ℕ) (w : 400 ≤ length state) where
 
       pub reads-sentence : (s : AisSentence) → checkOf line (length payload) (length bits) ≡ taken (Parsed.Sentence s)
           → {numbers texts : List ℕ} {code : ℕ} {state′ payload′ bits′ numbers′ texts′ : List ℕ}
-          → Reads (receivingOf (recordIn state) s (payloadOf line s) decode payload bits) state numbers texts code state′ payload′ bits′ numbers′ texts′
+          → Reads (handingOf (recordIn state) s (payloadOf line s) decode payload bits) state numbers texts code state′ payload′ bits′ numbers′ texts′
           → Reads (calledOf (recordIn state) line decode payload bits) state numbers texts code state′ payload′ bits′ numbers′ texts′
       reads-sentence s e q = record { answer = q .answer; leaves = leaves-sentence s e (q .answer) _ _ _ (q .leaves); told = q .told; texted = q .texted }
 

@@ -10,7 +10,7 @@ use Rattle.armour.specs.Armour.{unarmored}
 use Rattle.armour.specs.Unarmor.{answerOf}
 use Rattle.reassembly.specs.Record.{freshRecord, emptiedOf}
 use Rattle.sentence.specs.declared.AisSentence.{AisSentence}
-use Rattle.answer.specs.Answer.{Heard, heardIn, completeOf, decodeOf}
+use Rattle.answer.specs.Answer.{completeOf, decodeOf}
 use Rattle.answer.specs.declared.Decode.{Decode}
 use Rattle.answer.specs.declared.Answer.{Answer}
 use Rattle.ais.specs.Call.{Called, calledIn, calledOf}
@@ -19,6 +19,7 @@ use Rattle.record_bytes.specs.Bytes.{tooFew, recordIn, recordBytes, loadedOf, s
 use Rattle.layout_answer.specs.Sentence.{codeOf, countOf}
 use Rattle.layout_message.specs.Message.{messageTexts}
 use Rattle.layout_answer.specs.Answer.{numbersBy, toldIn, toldOf}
+use Rattle.layout_told.specs.Told.{Hears}
 
 -- what making a record fresh gives back: the answer, and the record's bytes
 pub record Freshened : Type 0 where
@@ -52,13 +53,6 @@ tooShort state numbers texts = tooFew state || (ltb (length numbers) 50 || ltb (
 pub record Leaves (c : Called) (state : List ℕ) (a : Answer) (state′ payload′ bits′ : List ℕ) : Type 0 where
   pub answered : calledIn (stepped (c .after) a) payload′ bits′ ≡ c
   pub stored : state′ ≡ over (recordBytes (c .after)) state
-
--- what is told of a line, with its answer in numbers and texts
-pub record Hears (h : Heard) (numbers texts : List ℕ) (code : ℕ) (payload′ bits′ numbers′ texts′ : List ℕ) : Type 0 where
-  pub answer : Answer
-  pub heard : heardIn answer payload′ bits′ ≡ h
-  pub told : toldIn code numbers′ texts′ ≡ toldOf answer numbers texts
-  pub texted : length (messageTexts (answer .message)) ≡ 80
 
 -- a call's answer in numbers and texts, and what it leaves
 pub record Reads (c : Called) (state numbers texts : List ℕ) (code : ℕ) (state′ payload′ bits′ numbers′ texts′ : List ℕ) : Type 0 where

@@ -4,18 +4,14 @@ use ais::Checked;
 use answer::Decode;
 use reassembly::JoinOutcome;
 use reassembly::Part;
-use refusal::Refusal;
 use sentence::AisSentence;
 ghost use mathlib.Core.Path.{_≡_};
-ghost use mathlib.Core.List.{List};
-ghost use Prim.Native.Nat.{ℕ, _≤_};
+ghost use Prim.Native.Nat.{_≤_};
 ghost use lib.ListN.{length};
-ghost use Rattle.answer.specs.Answer.{refuses, completeOf, unfinishedOf};
 ghost use Rattle.ais.specs.Call.{calledOf};
-ghost use Rattle.ais.specs.Parts.{receivingOf};
+ghost use Rattle.ais.specs.Parts.{handingOf};
 ghost use Rattle.record_bytes.specs.Bytes.{recordIn, loadedOf};
-ghost use Rattle.layout_answer.specs.Answer.{toldIn, toldOf};
-ghost use Rattle.sumturnip.specs.Calls.{Hears, Ends, Reads, freshenedIn, freshenedOf, readIn, readOf, unarmsIn, unarmsOf};
+ghost use Rattle.sumturnip.specs.Calls.{Ends, Reads, freshenedIn, freshenedOf, readIn, readOf, unarmsIn, unarmsOf};
 
 // A fresh record: 0, or 12 where the record's bytes are too few.
 #[no_mangle]
@@ -27,55 +23,6 @@ pub extern "C" fn sumturnip_fresh(lent: &mut [u8]) -> u32
     }
     record_bytes::store(reassembly::fresh(), lent);
     0
-}
-
-// A refusal, told.
-fn tell_refused(refusal: Refusal, numbers: &mut [u64], texts: &mut [u8]) -> u32
-    ensures { λ r. ⌜ toldIn r (now (numbers .exit)) (now (texts .exit)) ≡ toldOf (refuses refusal) (now (numbers .entry)) (now (texts .entry)) ⌝ }
-{
-    let told = answer::refuse_plainly(refusal);
-    layout_answer::tell_plain(told, numbers, texts)
-}
-
-// A line of an unfinished message, told.
-fn tell_unfinished(
-    s: AisSentence,
-    own: &[u8],
-    payload: &mut [u8],
-    numbers: &mut [u64],
-    texts: &mut [u8],
-) -> u32
-    ensures { λ r. ⌜ ((bits : List ℕ)
-        → Hears (unfinishedOf s (now (own .entry)) (now (payload .entry)) bits) (now (numbers .entry)) (now (texts .entry)) r (now (payload .exit)) bits
-        (now (numbers .exit)) (now (texts .exit))) ⌝ }
-{
-    let told = answer::unfinished_plainly(s, own, payload);
-    layout_answer::tell_plain(told, numbers, texts)
-}
-
-// A complete message, told. One that is not decoded has no message to be made, handed on and laid out.
-fn tell_complete(
-    s: AisSentence,
-    handed: &[u8],
-    decode: Decode,
-    payload: &mut [u8],
-    bits: &mut [u8],
-    numbers: &mut [u64],
-    texts: &mut [u8],
-) -> u32
-    ensures { λ r. ⌜ Hears (completeOf s (now (handed .entry)) decode (now (payload .entry)) (now (bits .entry))) (now (numbers .entry))
-        (now (texts .entry)) r (now (payload .exit)) (now (bits .exit)) (now (numbers .exit)) (now (texts .exit)) ⌝ }
-{
-    match decode {
-        Decode::On => {
-            let told = answer::complete(s, handed, Decode::On, payload, bits);
-            return layout_answer::tell(told, numbers, texts);
-        }
-        Decode::Off => {
-            let told = answer::complete_plainly(s, handed, payload);
-            return layout_answer::tell_plain(told, numbers, texts);
-        }
-    }
 }
 
 // The last line of several, once it is joined: the payload is handed out from where it lies.
@@ -93,7 +40,15 @@ fn read_last(
         (now (state .exit)) (now (payload .exit)) (now (bits .exit)) (now (numbers .exit)) (now (texts .exit)) ⌝ }
 {
     let end = 16 + record_bytes::held_len(state);
-    let code = tell_complete(s, &state[16..end], decode, payload, bits, numbers, texts);
+    let code = layout_told::tell_complete(
+        s,
+        &state[16..end],
+        decode,
+        payload,
+        bits,
+        numbers,
+        texts,
+    );
     record_bytes::empty(state);
     code
 }
@@ -110,15 +65,29 @@ fn read_sentence(
     texts: &mut [u8],
 ) -> u32
     requires { ⌜ 400 ≤ length (now state) ⌝ }
-    ensures { λ r. ⌜ Reads (receivingOf (recordIn (now (state .entry))) s (now (own .entry)) decode (now (payload .entry)) (now (bits .entry)))
+    ensures { λ r. ⌜ Reads (handingOf (recordIn (now (state .entry))) s (now (own .entry)) decode (now (payload .entry)) (now (bits .entry)))
         (now (state .entry)) (now (numbers .entry)) (now (texts .entry)) r (now (state .exit)) (now (payload .exit)) (now (bits .exit)) (now (numbers .exit))
         (now (texts .exit)) ⌝ }
 {
     match record_bytes::join(state, ais::fragment_of(s), own) {
-        JoinOutcome::Refused(refusal) => return tell_refused(refusal, numbers, texts),
+        JoinOutcome::Refused(refusal) => return layout_told::tell_refused(refusal, numbers, texts),
         JoinOutcome::Taken(part) => match part {
-            Part::Unfinished => return tell_unfinished(s, own, payload, numbers, texts),
-            Part::Alone => return tell_complete(s, own, decode, payload, bits, numbers, texts),
+            Part::Unfinished => return layout_told::tell_unfinished(
+                s,
+                own,
+                payload,
+                numbers,
+                texts,
+            ),
+            Part::Alone => return layout_told::tell_complete(
+                s,
+                own,
+                decode,
+                payload,
+                bits,
+                numbers,
+                texts,
+            ),
             Part::Last => return read_last(s, decode, state, payload, bits, numbers, texts),
         },
     }
@@ -142,7 +111,7 @@ fn read_line(
     match ais::check(line, payload.len(), bits.len()) {
         Checked::Refused(refusal) => {
             record_bytes::keep(state);
-            tell_refused(refusal, numbers, texts)
+            layout_told::tell_refused(refusal, numbers, texts)
         }
         Checked::Sentence(s) => {
             let start = s.payload_start;

@@ -1,9 +1,9 @@
--- `sumturnip::tell_unfinished` meets its contract. Assumes nothing.
+-- `layout_told::tell_unfinished` meets its contract. Assumes nothing.
 use mathlib.Core.Path.{refl}
 use Rattle.answer.specs.Answer.{plainly}
 use borrow.Author.Needs.{needs}
-use Rattle.sumturnip.proofs.tell_unfinished.Statement.{statement}
-use Rattle.sumturnip.proofs.tell_unfinished.Tie as tie
+use Rattle.layout_told.proofs.tell_unfinished.Statement.{statement}
+use Rattle.layout_told.proofs.tell_unfinished.Tie as tie
 
 unfinished-plainly-requires : tie.Need-unfinished-plainly-requires
 unfinished-plainly-requires c κs = search needs

@@ -1,9 +1,9 @@
--- `sumturnip::tell_complete` meets its contract: decoded, or told plainly. Assumes nothing.
+-- `layout_told::tell_complete` meets its contract: decoded, or told plainly. Assumes nothing.
 use mathlib.Core.Path.{refl}
 use Rattle.answer.specs.Answer.{plainly}
 use borrow.Author.Needs.{needs}
-use Rattle.sumturnip.proofs.tell_complete.Statement.{statement}
-use Rattle.sumturnip.proofs.tell_complete.Tie as tie
+use Rattle.layout_told.proofs.tell_complete.Statement.{statement}
+use Rattle.layout_told.proofs.tell_complete.Tie as tie
 
 enum-told : tie.Need-enum-told
 enum-told c = search needs

@@ -1,10 +1,10 @@
--- `sumturnip::tell_refused` meets its contract. Assumes nothing.
+-- `layout_told::tell_refused` meets its contract. Assumes nothing.
 use mathlib.Core.Path.{ap, _∙_}
 use Rattle.answer.specs.declared.Answer.{Answer}
 use Rattle.layout_answer.specs.Answer.{toldOf}
 use borrow.Author.Needs.{needs}
-use Rattle.sumturnip.proofs.tell_refused.Statement.{statement}
-use Rattle.sumturnip.proofs.tell_refused.Tie as tie
+use Rattle.layout_told.proofs.tell_refused.Statement.{statement}
+use Rattle.layout_told.proofs.tell_refused.Tie as tie
 
 refuse-plainly-requires : tie.Need-refuse-plainly-requires
 refuse-plainly-requires c κs = search needs
