@@ -13,13 +13,12 @@ use borrow.Author.Tests.{lt-ltb, ne-eqb}
 use Rattle.sentence.specs.declared.Number.{Number}
 use Rattle.writer.specs.Message.{Message, linesIn}
 use Rattle.delivery.specs.Delivery.{Arrival, Answer, unfinished, complete, AllOurs, Ours}
-use Rattle.delivery.specs.Delivery.{numberOn, firstOfSeveral, newest, NoMixing, Delivery, DeliveryAlone}
-use Rattle.delivery.specs.Calls.{Step, answersFrom}
+use Rattle.delivery.specs.Delivery.{numberOn, firstOfSeveral, always, NoMixing, Delivery, DeliveryAlone}
 use Rattle.delivery.proofs.Lines.{number-several}
-use Rattle.delivery.proofs.Reader.{Reader, line, gives}
+use Rattle.delivery.proofs.Reader.{Step, answersFrom, runFrom, Reader, line, gives}
 use Rattle.delivery.proofs.Effects as effects
 use Rattle.delivery.proofs.Effects.{AllSendable, Effect, joins, stays}
-use Rattle.delivery.proofs.Safe.{newest-snoc, later-ours}
+use Rattle.delivery.proofs.Safe.{latest, newest-snoc, later-ours}
 
 -- past the head of a list
 past : {A : Type 0} (a : A) (l : List A) (q : ℕ) → 1 ≤ q → getElem? (a ∷ l) q ≡ getElem? l (q - 1)
@@ -153,8 +152,8 @@ module _ {S : Type 0} {does : ℕ → S → Arrival → Step S} {fresh : S} (rea
             on (was-none s c′) = stayed s (rec i j h l d c′)
 
     -- while lines i and on are to come and j lines are held, those of the newest first line f
-    on : (before rest : List Arrival) (p i j e : ℕ) (f : Arrival) → AllOurs sent rest → NoMixing (before ++ rest)
-        → newest before ≡ some f → f .of ≡ m → 1 ≤ j → j < n → i ≤ j + 1 → Coming i rest e → Given p (reader .held m j) rest e
+    on : (before rest : List Arrival) (p i j e : ℕ) (f : Arrival) → AllOurs sent rest → NoMixing always (before ++ rest)
+        → latest before ≡ some f → f .of ≡ m → 1 ≤ j → j < n → i ≤ j + 1 → Coming i rest e → Given p (reader .held m j) rest e
     on before [] p i j e f w u z o h l d c = absurd (Option·none-ne-some _ (c .comes n (c .in-range) (omega arith)))
     on before (a ∷ rest) p i j e f w u z o h l d c =
         one p i j a rest e (w a (List·Memᴰ·head refl))
@@ -181,7 +180,7 @@ module _ {S : Type 0} {does : ℕ → S → Arrival → Step S} {fresh : S} (rea
 
     -- the first line has come
     start : (before rest : List Arrival) (a : Arrival) (p : ℕ) (s : S) (e : ℕ) → AllOurs sent (a ∷ rest)
-        → NoMixing (before ++ a ∷ rest) → Waiting (a ∷ rest) 0 e
+        → NoMixing always (before ++ a ∷ rest) → Waiting (a ∷ rest) 0 e
         → GivenIn p s (a ∷ rest) 0 e
     start before rest a p s e w u c =
         record { when = suc (g .when); from = omega arith; by = omega (arith, g .by, pos n (omega arith) (omega arith), c .ends); given = rw begun (g .given) }
@@ -235,7 +234,8 @@ module _ {S : Type 0} {does : ℕ → S → Arrival → Step S} {fresh : S} (rea
             go (yes q) = rw (q, c .starts) (omega arith)
             go (no d) = omega (arith, c .order 1 x (omega arith) (omega arith) l)
 
-    wait : (before rest : List Arrival) (p : ℕ) (s : S) (b e : ℕ) → AllOurs sent rest → NoMixing (before ++ rest) → Waiting rest b e → GivenIn p s rest b e
+    wait : (before rest : List Arrival) (p : ℕ) (s : S) (b e : ℕ) → AllOurs sent rest → NoMixing always (before ++ rest) → Waiting rest b e
+        → GivenIn p s rest b e
     wait before [] p s b e w u c = absurd (Option·none-ne-some _ (c .comes 1 (omega arith) (omega arith)))
     wait before (a ∷ rest) p s zero e w u c = start before rest a p s e w u c
     wait before (a ∷ rest) p s (suc b) e w u c =
@@ -256,17 +256,17 @@ goes-up at n up x (suc y) h l l′ = go (λ u. goes-up at n up x y h u (omega ar
     go up-to (no d) = omega (arith, up-to (omega arith), last (omega arith) (omega arith))
 
 module _ {S : Type 0} {does : ℕ → S → Arrival → Step S} {fresh : S} (reader : Reader does fresh) (sent : List Message) (sendable : AllSendable sent) where
-  pub delivery : Delivery sent (answersFrom does 0 fresh)
-  delivery arrivals u m several c =
+  pub delivery : Delivery always sent (runFrom does fresh)
+  delivery arrivals u answers r m several c =
       let g = wait reader sent sendable m several [] arrivals 0 fresh (c .when 1) (c .when (linesIn m)) (u .ours) (u .no-mixing) (record {
         at = c .when;
         starts = refl;
         ends = refl;
         comes = c .comes;
         order = goes-up (c .when) (linesIn m) (c .in-order);
-        no-first = c .no-first;
+        no-first = λ q a l l′ e. c .no-first q a l l′ e refl;
       }) in
-      record { when = g .when; after = g .from; by = g .by; given = g .given }
+      record { when = g .when; after = g .from; by = g .by; given = rw r (g .given) }
 
   alone-at : (m : Message) → linesIn m ≡ 1 → (rest : List Arrival) (p : ℕ) (s : S) → AllOurs sent rest
       → (q : ℕ) → getElem? rest q ≡ some (line m 1) → getElem? (answersFrom does p s rest) q ≡ some (complete (m .payload) (m .fill))
@@ -276,5 +276,5 @@ module _ {S : Type 0} {does : ℕ → S → Arrival → Step S} {fresh : S} (rea
       rw (hd, reader .alone m (sendable m (rw hd at (w a (List·Memᴰ·head refl) .was-sent))) p s h)
   alone-at m h (a ∷ rest) p s w (suc q) e = alone-at m h rest (suc p) (does p s a .after) (later-ours sent a rest w) q e
 
-  pub delivery-alone : DeliveryAlone sent (answersFrom does 0 fresh)
-  delivery-alone arrivals u m h when e = alone-at m h arrivals 0 fresh u when e
+  pub delivery-alone : DeliveryAlone sent (runFrom does fresh)
+  delivery-alone arrivals u answers r m h when e = rw r (alone-at m h arrivals 0 fresh u when e)

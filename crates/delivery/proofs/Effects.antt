@@ -11,9 +11,8 @@ use borrow.Author.Tests.{eq-eqb, ltb-false}
 use Rattle.sentence.specs.declared.Number.{Number}
 use Rattle.writer.specs.Message.{Message, Sendable, linesIn}
 use Rattle.delivery.specs.Delivery.{Arrival, Answer, refused, unfinished, complete, Ours, WasSent, numberOn, firstOfSeveral}
-use Rattle.delivery.specs.Calls.{Step}
 use Rattle.delivery.proofs.Lines.{number-several}
-use Rattle.delivery.proofs.Reader.{Reader, gives}
+use Rattle.delivery.proofs.Reader.{Step, Reader, gives}
 
 -- what an answer may be: if it is complete, it was sent
 abbrev pub Fine : List Message → Answer → Type 0

@@ -6,10 +6,10 @@ use mathlib.Core.List.{List, [], _∷_, _++_}
 use lib.ListN.{replicate}
 use Rattle.writer.specs.Message.{Message, Sendable, linesIn}
 use Rattle.delivery.specs.Delivery.{Arrival, Answer, unfinished, complete}
-use Rattle.delivery.specs.RoundTrip.{linesFrom, allLines, wholeAtLast}
-use Rattle.delivery.specs.Calls.{Step, answersFrom}
+use Rattle.delivery.specs.Lines.{linesFrom, allLines}
+use Rattle.delivery.specs.RoundTrip.{wholeAtLast}
 use Rattle.delivery.proofs.Lines.{some-lines}
-use Rattle.delivery.proofs.Reader.{Reader}
+use Rattle.delivery.proofs.Reader.{Step, answersFrom, Reader}
 
 module _ {S : Type 0} {does : ℕ → S → Arrival → Step S} {fresh : S} (reader : Reader does fresh) (m : Message) (s : Sendable m) where
   abbrev whole : ℕ → List Answer

@@ -5,8 +5,12 @@ pub mod Safe
 pub mod Delivered
 pub mod Numbered
 pub mod Holding
+pub mod HandedOn
+pub mod Paper
 pub mod Called
 pub mod InOrder
-pub mod Accepted
+pub mod Sent
 pub mod RoundTrip
+pub mod Made
+pub mod Witness
 pub mod Mixed

@@ -1,10 +1,24 @@
 -- What demand 3 asks of a reader, of whatever state: what it does with each line of ours. Assumes nothing.
-use Prim.Native.Nat.{ℕ, _+_, _≤_, _<_}
+use Prim.Native.Nat.{ℕ, suc, _+_, _≤_, _<_}
 use mathlib.Core.Path.{_≡_}
 use mathlib.Core.Logic.{_≢_}
+use mathlib.Core.List.{List, [], _∷_}
 use Rattle.writer.specs.Message.{Message, Sendable, linesIn}
-use Rattle.delivery.specs.Delivery.{Arrival, Answer, refused, unfinished, complete}
-use Rattle.delivery.specs.Calls.{Step}
+use Rattle.delivery.specs.Delivery.{Arrival, Answer, refused, unfinished, complete, Run}
+
+-- what an arrival does to a state: its answer, and the state after it
+pub record Step (S : Type 0) : Type 0 where
+  pub answer : Answer
+  pub after : S
+
+-- the answers from a state on, where `does p s a` is what the arrival a does to the state s as the call number p
+abbrev pub answersFrom : {S : Type 0} → (ℕ → S → Arrival → Step S) → ℕ → S → List Arrival → List Answer
+answersFrom does p s [] = []
+answersFrom does p s (a ∷ later) = does p s a .answer ∷ answersFrom does (suc p) (does p s a .after) later
+
+-- the run from a state on
+abbrev pub runFrom : {S : Type 0} → (ℕ → S → Arrival → Step S) → S → Run
+runFrom does s arrivals answers = answers ≡ answersFrom does 0 s arrivals
 
 abbrev pub line : Message → ℕ → Arrival
 line m i = record { of = m; line = i }

@@ -1,43 +1,30 @@
 -- The round trip: what the writer's contract gives, read by the calls of `ais` and unarmored, is the bits again. Assumes nothing.
 use Prim.Native.Nat.{ℕ, _≤_}
 use native.Mathlib.Omega.{arith}
-use mathlib.Core.Path.{_≡_, refl, sym, ap, _∙_}
+use mathlib.Core.Path.{_≡_, refl, _∙_}
 use mathlib.Core.Bool.{false}
-use mathlib.Core.List.{List}
-use lib.ListN.{length, take, drop}
+use mathlib.Core.List.{List, map}
+use lib.ListN.{length, drop}
 use lib.Seq.{take-at}
-use Rattle.refusal.specs.Words.{Told, taken, left, over}
-use Rattle.refusal.proofs.Order.{passed, taken-same}
+use Rattle.refusal.specs.Words.{taken, over}
 use Rattle.armour.specs.Armour.{size, unarmored}
 use Rattle.armour.specs.Unarmor.{answerOf, Unarmors}
 use Rattle.armour.specs.declared.Unarmored.{Unarmored}
 use Rattle.armour.proofs.Laws.{unarmored-length}
 use Rattle.armour.proofs.Answers.{fill-some, says-taken, answered-by}
 use Rattle.armour.proofs.Unique.{unique}
-use Rattle.writer.specs.Message.{charsIn, fillIn, armoured, textAll, Sendable}
-use Rattle.writer.specs.Writer as writer
-use Rattle.writer.specs.Writer.{outside, messageOf, checksOf, Writes}
+use Rattle.writer.specs.Message.{charsIn, fillIn, armoured, Sendable}
+use Rattle.writer.specs.Writer.{outside, messageOf}
 use Rattle.writer.specs.declared.Request.{Request}
-use Rattle.writer.specs.declared.Written.{Written}
 use Rattle.writer.proofs.Armoured.{length-armoured, armoured-good, bits-back}
 use Rattle.writer.proofs.Sendable.{sendable}
-use Rattle.delivery.specs.RoundTrip.{Wrote, BitsBack, RoundTrip}
+use Rattle.delivery.specs.Lines.{allLines}
+use Rattle.delivery.specs.Calls.{messageIn, answerIn, Received}
+use Rattle.delivery.specs.RoundTrip.{BitsBack, RoundTrip}
+use Rattle.delivery.proofs.Paper.{givenAt, answers-are}
+use Rattle.delivery.proofs.Sent.{inside, sent-sendable, written}
 use Rattle.delivery.proofs.Called.{reads}
 use Rattle.delivery.proofs.InOrder.{read-alone}
-
--- what the writer's contract says of a call that was answered with n bytes
-wrote : (q : Request) (d out : List ℕ) (n : ℕ) (out′ : List ℕ) → Writes q d out (Written.Lines n) out′ → Wrote q d n out′
-unfolding writer.answerOf
-wrote q d out n out′ w = record { inside = passed (checksOf q d (length out)) _ n (sym (w .answers)) .0; lines = lines }
-  where
-    long : length (textAll (messageOf q d)) ≡ n
-    long = taken-same (checksOf q d (length out)) _ n (sym (w .answers))
-
-    stands : out′ ≡ over (textAll (messageOf q d)) out
-    stands = w .leaves ∙ ap (λ (t : Told ℕ). left t (textAll (messageOf q d)) out) (sym (w .answers))
-
-    lines : take n out′ ≡ textAll (messageOf q d)
-    lines = rw stands (take-at (textAll (messageOf q d)) _ n long)
 
 -- the characters of n bits, unarmored with their fill
 module _ (q : Request) (d : List ℕ) (inside : outside q d ≡ false) where
@@ -78,12 +65,12 @@ module _ (q : Request) (d : List ℕ) (inside : outside q d ≡ false) where
           (answered-by payload fill out (taken (size (length payload))) says refl refl)
 
 pub round-trip-holds : RoundTrip
-round-trip-holds = record {
-  wrote = wrote;
-  read-back = λ a lent. record {
-    payload = armoured (a .bytes) (a .request .count);
-    fill = fillIn (a .request .count);
-    read = read-alone (reads lent) (messageOf (a .request) (a .bytes)) (sendable (a .request) (a .bytes) (a .inside));
-    back = back (a .request) (a .bytes) (a .inside);
-  };
+round-trip-holds s calls run = record {
+  payload = armoured (s .bytes) (s .request .count);
+  fill = fillIn (s .request .count);
+  read = answers-are (allLines (messageIn s)) _ received ∙ read-alone (reads (givenAt calls)) (messageIn s) (sent-sendable s);
+  back = back (s .request) (s .bytes) (inside s);
 }
+  where
+    received : Received (allLines (messageIn s)) (map answerIn calls)
+    received = record { calls = calls; run = rw (written s) at run; read-off = refl }

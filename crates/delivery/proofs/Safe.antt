@@ -12,19 +12,23 @@ use lib.Dec.{eqb, ltb}
 use borrow.Author.Tests.{ltb-true, eqb-true}
 use Rattle.refusal.specs.Words.{pick}
 use Rattle.writer.specs.Message.{Message, linesIn}
-use Rattle.delivery.specs.Delivery.{Arrival, Answer, unfinished, complete, AllOurs, Ours, numberOn, firstOfSeveral, orElse, newest, NoMixing, Safety}
-use Rattle.delivery.specs.Calls.{Step, answersFrom}
+use Rattle.delivery.specs.Delivery.{Arrival, Answer, unfinished, complete, AllOurs, Ours, numberOn, firstOfSeveral, orElse, always, newest, NoMixing}
+use Rattle.delivery.specs.Delivery.{Safety}
 use Rattle.delivery.proofs.Lines.{number-several}
-use Rattle.delivery.proofs.Reader.{Reader, gives}
+use Rattle.delivery.proofs.Reader.{Step, answersFrom, runFrom, Reader, gives}
 use Rattle.delivery.proofs.Effects as effects
 use Rattle.delivery.proofs.Effects.{Fine, AllSendable, Effect, joins, stays}
+
+-- the newest first line where every arrival counts
+abbrev pub latest : List Arrival → Option Arrival
+latest arrivals = newest (λ (a : Arrival). true) arrivals
 
 -- one arrival more is the newest if it is a first of several
 orElse-pick : (b : Bool) (a : Arrival) (x y : Option Arrival) → orElse (pick b (some a) x) y ≡ pick b (some a) (orElse x y)
 orElse-pick true a x y = refl
 orElse-pick false a x y = refl
 
-pub newest-snoc : (before : List Arrival) (a : Arrival) → newest (before ++ a ∷ []) ≡ pick (firstOfSeveral a) (some a) (newest before)
+pub newest-snoc : (before : List Arrival) (a : Arrival) → latest (before ++ a ∷ []) ≡ pick (firstOfSeveral a) (some a) (latest before)
 newest-snoc [] a = refl
 newest-snoc (x ∷ xs) a = rw (newest-snoc xs a, orElse-pick)
 
@@ -98,15 +102,15 @@ module _ {S : Type 0} {does : ℕ → S → Arrival → Step S} {fresh : S} (rea
       go true e = started p s a w e
       go false e = idle o p s a g w fits e
 
-  safe-from : (before rest : List Arrival) (p : ℕ) (s : S) → AllOurs sent rest → NoMixing (before ++ rest) → Good (newest before) s
+  safe-from : (before rest : List Arrival) (p : ℕ) (s : S) → AllOurs sent rest → NoMixing always (before ++ rest) → Good (latest before) s
       → (when : ℕ) (x : Answer) → getElem? (answersFrom does p s rest) when ≡ some x → Fine sent x
   safe-from before [] p s w n g when x e = absurd (Option·none-ne-some x e)
   safe-from before (a ∷ later) p s w n g zero x e =
-      subst (Fine sent) (Option·some-inj .0 e) ((kept (newest before) p s a g (w a (List·Memᴰ·head refl)) (λ f q. n before later a f refl q)) .fine)
+      subst (Fine sent) (Option·some-inj .0 e) ((kept (latest before) p s a g (w a (List·Memᴰ·head refl)) (λ f q. n before later a f refl q)) .fine)
   safe-from before (a ∷ later) p s w n g (suc when) x e =
       safe-from (before ++ a ∷ []) later (suc p) (does p s a .after) (later-ours sent a later w) (rw append-snoc n)
-      (rw newest-snoc ((kept (newest before) p s a g (w a (List·Memᴰ·head refl)) (λ f q. n before later a f refl q)) .good)) when x e
+      (rw newest-snoc ((kept (latest before) p s a g (w a (List·Memᴰ·head refl)) (λ f q. n before later a f refl q)) .good)) when x e
 
-  pub safety : Safety sent (answersFrom does 0 fresh)
-  safety arrivals u when payload fill e =
-      safe-from [] arrivals 0 fresh (u .ours) (u .no-mixing) refl when (complete payload fill) e
+  pub safety : Safety always sent (runFrom does fresh)
+  safety arrivals u answers r when payload fill e =
+      safe-from [] arrivals 0 fresh (u .ours) (u .no-mixing) refl when (complete payload fill) (rw r at e)

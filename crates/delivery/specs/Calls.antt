@@ -1,32 +1,36 @@
--- The runs of calls of `ais`, and demand 3 of them. What stands in quotes is its text, or document 01's.
-use Prim.Native.Nat.{ℕ, suc, _≤_}
+-- The runs of calls of the code, and demand 3 of them. What stands in quotes is its text, or document 01's.
+use Prim.Native.Nat.{ℕ, _≤_}
 use mathlib.Core.Path.{_≡_}
-use mathlib.Core.Bool.{false}
 use mathlib.Core.List.{List, [], _∷_, map}
 use lib.ListN.{length, take}
-use Rattle.refusal.specs.Words.{Told}
-use Rattle.answer.specs.Answer.{Progress}
+use Rattle.refusal.specs.Refusal.{rowOf}
+use Rattle.answer.specs.declared.Answer as given
 use Rattle.answer.specs.declared.Decode.{Decode}
-use Rattle.ais.specs.Call.{Called, calledOf}
+use Rattle.answer.specs.declared.Outcome.{Outcome}
+use Rattle.ais.specs.Call.{calledIn, calledOf}
 use Rattle.reassembly.specs.Record.{freshRecord}
 use Rattle.reassembly.specs.declared.Record.{Record}
-use Rattle.writer.specs.Message.{Message, textOf}
-use Rattle.writer.specs.Writer.{outside, messageOf}
+use Rattle.writer.specs.Message.{Message}
+use Rattle.writer.specs.Writer.{messageOf, Writes}
 use Rattle.writer.specs.declared.Request.{Request}
-use Rattle.delivery.specs.Delivery.{Arrival, AllOurs, Answer, refused, unfinished, complete, Run, NoMixing, Safety, Delivery, DeliveryAlone, Numbered}
+use Rattle.writer.specs.declared.Written.{Written}
+use Rattle.delivery.specs.Delivery.{Arrival, AllOurs, Answer, refused, unfinished, complete, always, NoMixing, Safety, Delivery, DeliveryAlone, Numbered}
+use Rattle.delivery.specs.Lines.{textIn, allLines, cutAfterLF, LineEnd, handedOn}
 
--- ---- runs
--- what a line does to a state: its answer, and the state after it
-pub record Step (S : Type 0) : Type 0 where
-  pub answer : Answer
-  pub after : S
+-- ---- what is sent
+-- a call of `writer::write` that is answered with a count of bytes: what it was given, and its output before and after it, as its contract ties them
+pub record Sent : Type 0 where
+  pub request : Request
+  pub bytes : List ℕ
+  pub before : List ℕ
+  pub count : ℕ
+  pub out : List ℕ
+  pub keeps : Writes request bytes before (Written.Lines count) out
 
--- the answers from a state on, where `does p s a` is what the arrival a does to the state s as the call number p
-abbrev pub answersFrom : {S : Type 0} → (ℕ → S → Arrival → Step S) → ℕ → S → List Arrival → List Answer
-answersFrom does p s [] = []
-answersFrom does p s (a ∷ later) = does p s a .answer ∷ answersFrom does (suc p) (does p s a .after) later
+abbrev pub messageIn : Sent → Message
+messageIn s = messageOf (s .request) (s .bytes)
 
--- ---- the calls of `ais`
+-- ---- the calls of the reader
 -- "a payload buffer of at least 384 bytes and a bit buffer of at least 288 lent at each call"
 pub record Lent : Type 0 where
   pub payload : List ℕ
@@ -34,45 +38,55 @@ pub record Lent : Type 0 where
   pub payload-large : 384 ≤ length payload
   pub bits-large : 288 ≤ length bits
 
--- what the caller reads off what is told, the payload handed out and the fill
-abbrev pub answerBy : Told Progress → List ℕ → ℕ → Answer
-answerBy (Told.taken Progress.complete) handed fill = complete handed fill
-answerBy (Told.taken Progress.unfinished) handed fill = unfinished
-answerBy (Told.refused n values) handed fill = refused n
+-- a call: how its line ends, the buffers lent at it, and what the code gave back, which is the answer, the record and both buffers after it
+pub record Call : Type 0 where
+  pub ends : LineEnd
+  pub lent : Lent
+  pub answer : given.Answer
+  pub state : Record
+  pub payload : List ℕ
+  pub bits : List ℕ
 
--- "On success the payload buffer's first bytes hold the payload": as many as the sentence tells
-abbrev pub answerIn : Called → Answer
-answerIn c = answerBy (c .told) (take (c .sentence .«payload_len») (c .payload)) (c .sentence .«fill_bit_count»)
+-- what the caller reads off an outcome, the payload handed out and the fill
+abbrev pub answerBy : Outcome → List ℕ → ℕ → Answer
+answerBy Outcome.Complete handed fill = complete handed fill
+answerBy Outcome.Unfinished handed fill = unfinished
+answerBy (Outcome.Refused r) handed fill = refused (rowOf r .number)
 
--- a call "with decoding off" on the text of the line that arrives, with the buffers lent at it
-unfoldable pub onCall : (ℕ → Lent) → ℕ → Record → Arrival → Step Record
-onCall lent p r a =
-    let c = calledOf r (textOf (a .of) (a .line)) Decode.Off (lent p .payload) (lent p .bits) in
-    record { answer = answerIn c; after = c .after }
+-- "On success the payload buffer's first bytes hold the payload": as many as the answer's sentence tells
+abbrev pub answerIn : Call → Answer
+answerIn c = answerBy (c .answer .outcome) (take (c .answer .sentence .«payload_len») (c .payload)) (c .answer .sentence .«fill_bit_count»)
 
--- "Let a fresh record receive .."
-abbrev pub callRun : (ℕ → Lent) → Run
-callRun lent arrivals = answersFrom (onCall lent) 0 freshRecord arrivals
+-- a call on a line that was written, as it is handed on, "with decoding off", keeps the contract of `reader::read` and `ais::step`, from the record r
+abbrev pub Keeps : Record → List ℕ → Call → Type 0
+Keeps r line c =
+    calledIn (record { state = c .state; answer = c .answer }) (c .payload) (c .bits)
+    ≡ calledOf r (handedOn (c .ends) line) Decode.Off (c .lent .payload) (c .lent .bits)
 
--- ---- what is sent
--- a request that the writer takes, and the bytes that hold its bits
-pub record Accepted : Type 0 where
-  pub request : Request
-  pub bytes : List ℕ
-  pub inside : outside request bytes ≡ false
+-- A RUN OF CALLS from a record on, one for each line: each finds the record that the call before it left
+abbrev pub Calls : Record → List (List ℕ) → List Call → Type 0
+Calls r [] [] = Unit {0}
+Calls r [] (c ∷ cs) = ⊥
+Calls r (line ∷ later) [] = ⊥
+Calls r (line ∷ later) (c ∷ cs) = Keeps r line c × Calls (c .state) later cs
 
-abbrev pub messageIn : Accepted → Message
-messageIn a = messageOf (a .request) (a .bytes)
+-- "Let a fresh record receive .." the lines that arrive: the answers are read off a run of calls
+pub record Received (arrivals : List Arrival) (answers : List Answer) : Type 0 where
+  pub calls : List Call
+  pub run : Calls freshRecord (map textIn arrivals) calls
+  pub read-off : answers ≡ map answerIn calls
 
--- DEMAND 3, whatever requests are accepted and whatever buffers are lent: "Let a fresh record receive, with decoding off, only lines our writer wrote,
--- with some lost, repeated or out of order." The premise is `NoMixing`
+-- DEMAND 3, whatever the writer was asked, however the lines end and whatever buffers are lent: "Let a fresh record receive, with decoding off,
+-- only lines our writer wrote, with some lost, repeated or out of order." The premise is `NoMixing`
 pub record Demand3 : Type 0 where
   -- "Then each payload handed out as complete is one that was sent, with its fill count."
-  pub safety : (requests : List Accepted) (lent : ℕ → Lent) → Safety (map messageIn requests) (callRun lent)
+  pub safety : (sent : List Sent) → Safety always (map messageIn sent) Received
   -- "Under the same premise a message of several lines is handed out if its lines come in order, whatever else lies between, provided .."
-  pub delivery : (requests : List Accepted) (lent : ℕ → Lent) → Delivery (map messageIn requests) (callRun lent)
+  pub delivery : (sent : List Sent) → Delivery always (map messageIn sent) Received
   -- beside it: a message of a single line is handed out whenever its line arrives
-  pub alone : (requests : List Accepted) (lent : ℕ → Lent) → DeliveryAlone (map messageIn requests) (callRun lent)
-  -- and the premise holds of every order of arrival if the messages sent differ in number
-  pub numbered : (requests : List Accepted) (arrivals : List Arrival) → Numbered (map messageIn requests) → AllOurs (map messageIn requests) arrivals
-      → NoMixing arrivals
+  pub alone : (sent : List Sent) → DeliveryAlone (map messageIn sent) Received
+  -- the premise holds of every order of arrival if the messages of several lines that are sent differ in number
+  pub numbered : (sent : List Sent) (arrivals : List Arrival) → Numbered (map messageIn sent) → AllOurs (map messageIn sent) arrivals
+      → NoMixing always arrivals
+  -- and those lines are what our writer wrote: its output, cut after each LF
+  pub written : (s : Sent) → cutAfterLF (take (s .count) (s .out)) ≡ map textIn (allLines (messageIn s))

@@ -1,3 +1,4 @@
 pub mod Delivery
+pub mod Lines
 pub mod Calls
 pub mod RoundTrip

@@ -1,5 +1,5 @@
--- `delivery::demand3` meets its contract: the theorems of proofs/Accepted.antt. Assumes nothing.
-use Rattle.delivery.proofs.Accepted.{demand3-holds}
+-- `delivery::demand3` meets its contract: the theorems of proofs/Sent.antt. Assumes nothing.
+use Rattle.delivery.proofs.Sent.{demand3-holds}
 use Rattle.delivery.proofs.demand3.Statement.{statement}
 use Rattle.delivery.proofs.demand3.Tie as tie
 
