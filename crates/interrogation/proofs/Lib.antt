@@ -3,3 +3,4 @@ pub mod Laws
 pub mod Answers
 pub mod Lengths
 pub mod Sound
+pub mod Unique

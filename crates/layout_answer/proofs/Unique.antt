@@ -1,4 +1,4 @@
--- NOTHING IS LOST: an outcome is told by its code and values, and a sentence by its numbers. Assumes nothing.
+-- NOTHING IS LOST: an outcome is told by its code and values, a sentence by its numbers, and what is lent by what is told. Assumes nothing.
 use mathlib.Core.Path.{_≡_, refl, sym, ap, _∙_}
 use mathlib.Core.List.{List}
 use Prim.Native.Nat.{ℕ}
@@ -15,6 +15,7 @@ use Rattle.answer.specs.Answer.{outcomeIn}
 use Rattle.armour.specs.declared.TrueType.{TrueType}
 use Rattle.answer.specs.declared.Outcome.{Outcome}
 use Rattle.answer.specs.declared.Sentence.{Sentence}
+use Rattle.layout_answer.specs.Answer.{Tells, toldIn}
 use Rattle.layout_answer.specs.Sentence.{codeOf, valuesOf, talkerNumber, reportNumber, idIn, channelIn, typeIn, sentenceNumbers}
 
 -- ---- the outcome
@@ -114,3 +115,7 @@ sentence-back s =
 
 pub same-sentence : (s t : Sentence) → sentenceNumbers s ≡ sentenceNumbers t → s ≡ t
 same-sentence s t e = sym (sentence-back s) ∙ ap sentenceBy e ∙ sentence-back t
+
+-- ---- the code, and what is lent for the numbers and the texts
+pub same-told : (a b : ℕ) (k l m n : List ℕ) → toldIn a k m ≡ toldIn b l n → (a ≡ b) × (k ≡ l) × (m ≡ n)
+same-told a b k l m n e = (ap (λ (t : Tells). t .code) e, ap (λ (t : Tells). t .numbers) e, ap (λ (t : Tells). t .texts) e)

@@ -3,3 +3,4 @@ pub mod Scan
 pub mod Ends
 pub mod Ways
 pub mod Callers
+pub mod Unique

@@ -2,3 +2,4 @@ pub mod Laws
 pub mod Fields
 pub mod Texts
 pub mod Tables
+pub mod Unique

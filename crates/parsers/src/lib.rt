@@ -3,7 +3,7 @@ ghost use mathlib.Core.Path.{_≡_};
 ghost use Prim.Native.Nat.{_+_, _*_, _^_, _≤_, _<_};
 ghost use lib.ListN.{getD};
 ghost use Rattle.parsers.specs.Bits.{val, bitAt};
-ghost use Rattle.parsers.specs.Field.{Field, takenOf, signedOf, twos, remainingOf};
+ghost use Rattle.parsers.specs.Field.{Field, takenIn, takenOf, signedOf, twos, remainingOf};
 ghost use Rattle.parsers.specs.Scan.{Led, Trailed};
 ghost use Rattle.parsers.specs.Text.{asciiOf, charAt, charsOf, textWith, textOf};
 
@@ -63,7 +63,7 @@ pub fn field(bytes: &[u8], at: usize, width: usize) -> u64
 
 // The same, told apart from a field that runs past the last byte.
 pub fn take_bits(bytes: &[u8], at: usize, width: usize) -> Taken
-    ensures { λ r. ⌜ r ≡ takenOf (now (bytes .entry)) at width ⌝ }
+    ensures { λ r. ⌜ takenIn r ≡ takenOf (now (bytes .entry)) at width ⌝ }
 {
     let first = at / 8;
     if width > 56 {
@@ -81,7 +81,7 @@ pub fn take_bits(bytes: &[u8], at: usize, width: usize) -> Taken
 
 // The type of a message: its first six bits.
 pub fn message_type(bytes: &[u8]) -> Taken
-    ensures { λ r. ⌜ r ≡ takenOf (now (bytes .entry)) 0 6 ⌝ }
+    ensures { λ r. ⌜ takenIn r ≡ takenOf (now (bytes .entry)) 0 6 ⌝ }
 {
     take_bits(bytes, 0, 6)
 }

@@ -38,7 +38,7 @@ pub record Check : Type 0 where
 abbrev pub check : Bool → ℕ → List ℕ → Check
 check fails number values = record { fails = fails; number = number; values = values }
 
--- checks taken in order: "A refusal is given exactly when its condition holds and none earlier does" (document 01, 'Refusal numbers')
+-- checks taken in order: "A refusal is given exactly when its condition holds .. and none earlier does" (document 01, 'Refusal numbers')
 abbrev pub checked : {A : Type 0} → List Check → Told A → Told A
 checked [] t = t
 checked (c ∷ cs) t = pick (c .fails) (refused (c .number) (c .values)) (checked cs t)

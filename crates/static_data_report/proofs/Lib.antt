@@ -2,3 +2,4 @@ pub mod Table
 pub mod Laws
 pub mod Lengths
 pub mod Sound
+pub mod Unique

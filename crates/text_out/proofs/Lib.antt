@@ -2,3 +2,4 @@ pub mod Laws
 pub mod Strings
 pub mod Copied
 pub mod Decimals
+pub mod Unique

@@ -7,7 +7,7 @@ ghost use mathlib.Core.List.{[], _∷_, _++_};
 ghost use Prim.Native.Nat.{_<_};
 ghost use lib.Dec.{eqb};
 ghost use lib.ListN.{length, getD};
-ghost use Rattle.refusal.specs.Words.{pick};
+ghost use Rattle.refusal.specs.Words.{pick, over};
 ghost use Rattle.scan.specs.Scan.{comma, capital};
 ghost use Rattle.sentence.specs.Written.{talkerText, reportText, channelText, ending};
 ghost use Rattle.text_out.specs.Text.{text, put};
@@ -59,7 +59,7 @@ pub fn put_close(out: &mut [u8], at: usize, sum: u8) -> usize
 
 // A talker's letters; zeros for the unknown one, which has none.
 fn talker_letters(talker: TalkerId) -> [u8; 2]
-    ensures { λ r. ⌜ talkerText talker ≡ pick (eqb (getD r 0 0) 0) [] r ⌝ }
+    ensures { λ r. ⌜ r ≡ over (talkerText talker) (0 ∷ 0 ∷ []) ⌝ }
 {
     match talker {
         TalkerId::AB => [b'A', b'B'],
@@ -78,7 +78,7 @@ fn talker_letters(talker: TalkerId) -> [u8; 2]
 
 // A report type's letters; zeros for the unknown one, which has none.
 fn report_letters(report: AisReportType) -> [u8; 3]
-    ensures { λ r. ⌜ reportText report ≡ pick (eqb (getD r 0 0) 0) [] r ⌝ }
+    ensures { λ r. ⌜ r ≡ over (reportText report) (0 ∷ 0 ∷ 0 ∷ []) ⌝ }
 {
     match report {
         AisReportType::VDM => [b'V', b'D', b'M'],

@@ -1,6 +1,7 @@
 -- `put_address` meets its contract: the letters of both, where they have any. Assumes nothing.
 use Rattle.text_out.specs.Text.{text}
 use Rattle.text_out.proofs.Laws.{put-then}
+use Rattle.written_line.proofs.Letters.{talker-told, report-told}
 use borrow.Author.Needs.{needs}
 use Rattle.written_line.proofs.put_address.Statement.{statement}
 use Rattle.written_line.proofs.put_address.Tie as tie
@@ -31,7 +32,7 @@ returns c =
     let at-put-letters = c .before .before .before .before .before .before .before in
     let at-report-letters = at-put-letters .before .before .before in
     let s = at-report-letters .before .before .before .args in
-    rw (at-report-letters .before .talker-letters .ensures, at-report-letters .report-letters .ensures)
+    rw (talker-told (s .talker) _ (at-report-letters .before .talker-letters .ensures), report-told (s .report) _ (at-report-letters .report-letters .ensures))
     (put-then (text (s .at) (s .out .now)) _ _ (at-put-letters .put-letters .ensures) (c .before .before .put-letters2 .ensures))
 
 pub put-address-spec : {M : Type 1} → statement M

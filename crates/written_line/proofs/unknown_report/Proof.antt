@@ -1,5 +1,5 @@
 -- `unknown_report` meets its contract. Assumes nothing.
-use Rattle.written_line.proofs.Letters.{none-told}
+use Rattle.written_line.proofs.Letters.{none-told, report-told}
 use Rattle.sentence.specs.Written.{reportText}
 use borrow.Author.Needs.{needs}
 use Rattle.written_line.proofs.unknown_report.Statement.{statement}
@@ -12,7 +12,9 @@ array-read-result : tie.Need-array-read-result
 array-read-result c = search needs
 
 returns : tie.Need-returns
-returns c = none-told (reportText (c .before .args .report)) (c .report-letters .result) (c .report-letters .ensures) (search needs)
+returns c =
+    let t = c .before .args .report in
+    none-told (reportText t) (c .report-letters .result) (report-told t _ (c .report-letters .ensures)) (search needs)
 
 pub unknown-report-spec : {M : Type 1} → statement M
 unknown-report-spec = tie.close (tie.spec report-letters-requires array-read-result returns)

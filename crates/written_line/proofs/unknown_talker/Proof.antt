@@ -1,5 +1,5 @@
 -- `unknown_talker` meets its contract. Assumes nothing.
-use Rattle.written_line.proofs.Letters.{none-told}
+use Rattle.written_line.proofs.Letters.{none-told, talker-told}
 use Rattle.sentence.specs.Written.{talkerText}
 use borrow.Author.Needs.{needs}
 use Rattle.written_line.proofs.unknown_talker.Statement.{statement}
@@ -12,7 +12,9 @@ array-read-result : tie.Need-array-read-result
 array-read-result c = search needs
 
 returns : tie.Need-returns
-returns c = none-told (talkerText (c .before .args .talker)) (c .talker-letters .result) (c .talker-letters .ensures) (search needs)
+returns c =
+    let t = c .before .args .talker in
+    none-told (talkerText t) (c .talker-letters .result) (talker-told t _ (c .talker-letters .ensures)) (search needs)
 
 pub unknown-talker-spec : {M : Type 1} → statement M
 unknown-talker-spec = tie.close (tie.spec talker-letters-requires array-read-result returns)

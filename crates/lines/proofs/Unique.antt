@@ -1,0 +1,12 @@
+-- NOTHING IS LOST: what a collector gives back is told by the number held, the event and the buffer. Assumes nothing.
+use mathlib.Core.Path.{_≡_, ap}
+use mathlib.Core.List.{List}
+use Prim.Native.Nat.{ℕ}
+use Rattle.lines.specs.Collect.{Collects, collectedIn}
+use Rattle.lines.specs.declared.Collected.{Collected}
+
+abbrev collectedBy : Collects → Collected
+collectedBy c = record { state = record { len = c .len }; event = c .event }
+
+pub same-collected : (a b : Collected) (l m : List ℕ) → collectedIn a l ≡ collectedIn b m → (a ≡ b) × (l ≡ m)
+same-collected a b l m e = (ap collectedBy e, ap (λ (c : Collects). c .line) e)
