@@ -6,7 +6,7 @@ use Prim.Native.Nat.{ℕ}
 use Rattle.refusal.specs.Words.{pick, onTaken, taken, check, checked}
 use Rattle.interrogation.specs.Table.{table, from}
 use Rattle.interrogation.specs.Interrogation.{short, remains, stationAt, stationEnd, headIn, stationIn, tellsOf, readBy, tooShort}
-use Rattle.interrogation.specs.Interrogation.{interrogatedOf, interrogatedIn, answerOf, Tells}
+use Rattle.interrogation.specs.Interrogation.{interrogatedOf, interrogatedIn, answerOf, Interrogates}
 use Rattle.interrogation.specs.declared.Ending.{Ending}
 use Rattle.interrogation.specs.declared.Interrogation.{Interrogation}
 use Rattle.interrogation.specs.declared.Interrogated.{Interrogated}
@@ -47,17 +47,17 @@ same-ending a b e =
     ∙ ending-back (b .outcome) (b .interrogation)
 
 module _ (d : List ℕ) (r : Interrogated) where
-  pub tells : r ≡ interrogatedOf d → Tells d r
-  tells e = record { told = ap interrogatedIn e ∙ answers d; beside = ap (λ (a : Interrogated). a .interrogation) e }
+  pub promised : r ≡ interrogatedOf d → Interrogates d r
+  promised e = record { told = ap interrogatedIn e ∙ answers d; beside = ap (λ (a : Interrogated). a .interrogation) e }
 
   -- the law for callers
-  pub is-told : Tells d r → r ≡ interrogatedOf d
-  is-told p =
+  pub is-answer : Interrogates d r → r ≡ interrogatedOf d
+  is-answer p =
       let whole : Interrogated = interrogatedOf d in
       let e : _≡_ {A = Interrogated} (record { outcome = r .outcome; interrogation = r .interrogation })
       (record { outcome = whole .outcome; interrogation = whole .interrogation }) =
       rw (same-ending r whole (p .told ∙ sym (answers d)), p .beside) in
       e
 
-pub unique : (d : List ℕ) (a b : Interrogated) → Tells d a → Tells d b → a ≡ b
-unique d a b p q = is-told d a p ∙ sym (is-told d b q)
+pub unique : (d : List ℕ) (a b : Interrogated) → Interrogates d a → Interrogates d b → a ≡ b
+unique d a b p q = is-answer d a p ∙ sym (is-answer d b q)

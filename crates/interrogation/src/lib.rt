@@ -4,7 +4,7 @@ ghost use mathlib.Core.List.{[], _∷_};
 ghost use Prim.Native.Nat.{_≤_};
 ghost use Rattle.interrogation.specs.Table.{table};
 ghost use Rattle.interrogation.specs.Interrogation.{noMessage, noStation, noInterrogation, offsetOf, dropped, kept, stationOf};
-ghost use Rattle.interrogation.specs.Interrogation.{messageAt, messageEnd, stationAt, stationEnd, short, headed, Tells};
+ghost use Rattle.interrogation.specs.Interrogation.{messageAt, messageEnd, stationAt, stationEnd, short, headed, Interrogates};
 
 // The slot in which the answer is asked for, counted from this one; absent where it is 0 or was not sent.
 pub enum SlotOffset {
@@ -231,7 +231,7 @@ fn taken(bytes: &[u8], stations: [Station; 2], count: u8) -> Interrogated
 
 // The interrogation in these bytes, however many.
 pub fn parse(bytes: &[u8]) -> Interrogated
-    ensures { λ r. ⌜ Tells (now (bytes .entry)) r ⌝ }
+    ensures { λ r. ⌜ Interrogates (now (bytes .entry)) r ⌝ }
 {
     // The head, the first station's number and the type of its first message are needed.
     if parsers::remaining_bits(bytes, 40) < 36 {

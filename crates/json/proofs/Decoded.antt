@@ -13,13 +13,12 @@ use borrow.Author.Tests.{eqb-false}
 use Rattle.refusal.specs.Words.{pick, within}
 use Rattle.parsers.specs.Field.{fieldOf, signedOf}
 use Rattle.parsers.specs.Text.{textOf, textIn}
-use Rattle.parsers.specs.Table.{numberAt, lacks}
+use Rattle.parsers.specs.Table.{numberAt}
 use Rattle.parsers.proofs.Fields.{signed-half}
 use Rattle.navigation.specs.Navigation.{eqZ, turnOf, manoeuvreOf}
 use Rattle.navigation.specs.declared.ManeuverIndicator.{ManeuverIndicator}
-use Rattle.position_report.specs.Table.{positionTable, rowsOf}
-use Rattle.position_report.specs.Report.{reportOf, positionOf}
-use Rattle.position_report.specs.declared.Position.{Position}
+use Rattle.position_report.specs.Table.{positionTable}
+use Rattle.position_report.specs.Report.{reportWith, reportOf}
 use Rattle.static_data_report.specs.Table as static
 use Rattle.static_data_report.specs.StaticData.{tooShort, noText, noTexts, nameOf, partBTextsOf, reportOf as staticOf, readBy as readStatic, staticDataOf}
 use Rattle.static_data_report.specs.Sound.{ReportSound}
@@ -33,7 +32,7 @@ use Rattle.interrogation.specs.Interrogation.{noMessage, padded, dropped, remai
 use Rattle.interrogation.specs.Interrogation.{headIn, stationIn, tellsOf, readBy, interrogatedOf}
 use Rattle.interrogation.specs.declared.Message.{Message}
 use Rattle.interrogation.specs.declared.Interrogated.{Interrogated}
-use Rattle.messages.specs.Messages.{positionIn, staticIn, askedIn, messageBy}
+use Rattle.messages.specs.Messages.{noMessage as nothing, endsPosition, positionIn, staticIn, askedIn, messageBy}
 use Rattle.json.proofs.Sound.{TurnSound, ManoeuvreSound, PositionSound, TextSound, TextsSound, Few, no-one, only, two, StationSound, Sound}
 
 -- what holds of both holds of the one that is picked
@@ -55,7 +54,7 @@ manoeuvre-sound raw = go (eqb raw 0) refl
     go false e = on-pick ManoeuvreSound (eqb raw 1) tt (on-pick ManoeuvreSound (eqb raw 2) tt (eqb-false raw 0 e))
 
 position-sound : (d : List ℕ) → PositionSound (reportOf positionTable d)
-unfolding reportOf
+unfolding reportWith reportOf
 position-sound d = record {
   turn = turn-sound (signedOf d 42 8) (omega (arith, signed-half d 42 8));
   longitude = omega (arith, signed-half d 61 28);
@@ -63,9 +62,8 @@ position-sound d = record {
   manoeuvre = manoeuvre-sound (fieldOf d 143 2);
 }
 
-position-in : (d : List ℕ) → Sound (positionIn (positionOf positionTable d))
-unfolding positionOf
-position-in d = on-pick (λ (p : Position). Sound (positionIn p)) (lacks d (rowsOf positionTable)) tt (position-sound d)
+position-in : (d : List ℕ) → Sound (pick (endsPosition d) nothing (positionIn (reportOf positionTable d)))
+position-in d = on-pick Sound (endsPosition d) tt (position-sound d)
 
 -- ---- type 24
 text-sound : (d : List ℕ) (at size : ℕ) → size / 6 ≤ 20 → TextSound (textOf d at size)

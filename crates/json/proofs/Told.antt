@@ -11,8 +11,8 @@ use Rattle.refusal.specs.Order.{Passed}
 use Rattle.refusal.proofs.Order.{passed, taken-same}
 use Rattle.armour.specs.Armour.{unarmored}
 use Rattle.position_report.specs.Table.{positionTable}
-use Rattle.position_report.specs.Report.{positionOf}
-use Rattle.position_report.specs.declared.Position.{Position}
+use Rattle.position_report.specs.Report.{reportOf}
+use Rattle.position_report.specs.declared.PositionReport.{PositionReport}
 use Rattle.static_data_report.specs.StaticData.{staticDataOf}
 use Rattle.static_data_report.specs.declared.Reported.{Reported}
 use Rattle.static_data_report.specs.declared.Texts.{Texts}
@@ -43,9 +43,9 @@ clash : true ≡ false → ⊥
 clash e = let z : _≡_ {A = ℕ} 0 1 = cc in omega arith
 
 -- ---- what is decoded
-position-tells : (p : Position) → endsPosition p ≡ false → Tells (positionIn p)
-position-tells Position.Short e n = clash e
-position-tells (Position.Report r) e n = let z : _≡_ {A = ℕ} 0 1 = cc in omega arith
+position-tells : (ends : Bool) (r : PositionReport) → ends ≡ false → Tells (pick ends noMessage (positionIn r))
+position-tells true r e n = clash e
+position-tells false r e n = let z : _≡_ {A = ℕ} 0 1 = cc in omega arith
 
 static-tells : (s : Reported) (texts : Texts) → endsStatic s ≡ false → Tells (staticIn s texts)
 static-tells Reported.Short texts e n = clash e
@@ -65,13 +65,13 @@ unfolding messageBy endsInside
 message-tells k d e o u = go (within 1 3 k) (eqb k 15) (eqb k 24) e u
   where
     go : (a b c : Bool)
-        → pick a (endsPosition (positionOf positionTable d))
+        → pick a (endsPosition d)
         (pick b (endsAsked (interrogatedOf d .outcome)) (pick c (endsStatic (staticDataOf d .report)) false)) ≡ false
         → pick a false (pick b false (pick c false (not (otherType k)))) ≡ false
-        → Tells (pick a (positionIn (positionOf positionTable d))
+        → Tells (pick a (pick (endsPosition d) noMessage (positionIn (reportOf positionTable d)))
         (pick b (askedIn (interrogatedOf d .outcome) (interrogatedOf d .interrogation))
         (pick c (staticIn (staticDataOf d .report) (staticDataOf d .texts)) noMessage)))
-    go true b c e u = position-tells (positionOf positionTable d) e
+    go true b c e u = position-tells (endsPosition d) (reportOf positionTable d) e
     go false true c e u = asked-tells (interrogatedOf d .outcome) (interrogatedOf d .interrogation) e
     go false false true e u = static-tells (staticDataOf d .report) (staticDataOf d .texts) e
     go false false false e u = absurd (neither-nor (otherType k) o u)

@@ -12,8 +12,6 @@ use Rattle.refusal.specs.Order.{First}
 use Rattle.refusal.proofs.Order.{exactly}
 use Rattle.refusal.proofs.Unique.{untold, untold-told}
 use Rattle.refusal.proofs.Within.{range-in, below-range}
-use Rattle.position_report.specs.Table.{positionTable}
-use Rattle.position_report.specs.Report.{positionOf}
 use Rattle.static_data_report.specs.StaticData.{staticDataOf}
 use Rattle.interrogation.specs.Interrogation.{interrogatedOf}
 use Rattle.messages.specs.Messages.{Decoding, parseIn, decodedIn, typeOf, otherType, unknownType, endsPosition, endsStatic, endsAsked}
@@ -67,7 +65,7 @@ module _ (k : ℕ) where
   ends-read : (d : List ℕ) → endsInside k d ≡ true → (otherType k ≡ false) × (unknownType k ≡ false)
   unfolding endsInside
   ends-read d =
-      read-types (within 1 3 k) (eqb k 15) (eqb k 24) (endsPosition (positionOf positionTable d)) (endsAsked (interrogatedOf d .outcome))
+      read-types (within 1 3 k) (eqb k 15) (eqb k 24) (endsPosition d) (endsAsked (interrogatedOf d .outcome))
       (endsStatic (staticDataOf d .report)) (otherType k) position-read (λ e. asked-read (eqb-true k 15 e)) (λ e. static-read (eqb-true k 24 e))
 
 -- "9 if empty, then 10 or 11, then 9": the one list and document 01's tell the same

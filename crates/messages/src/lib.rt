@@ -1,6 +1,5 @@
 // Decoding alone: from unarmored bytes to one of the five message types (messages/mod.rs, `parse`).
 use interrogation::Interrogation;
-use parsers::Taken;
 use position_report::Position;
 use position_report::PositionReport;
 use refusal::Refusal;
@@ -9,12 +8,10 @@ use static_data_report::StaticDataReport;
 use static_data_report::Texts;
 ghost use mathlib.Core.Path.{_≡_};
 ghost use mathlib.Core.Bool.{false};
-ghost use Rattle.position_report.specs.Table.{positionTable};
-ghost use Rattle.position_report.specs.Report.{positionOf};
 ghost use Rattle.static_data_report.specs.StaticData.{staticDataOf};
 ghost use Rattle.interrogation.specs.Interrogation.{interrogatedOf};
-ghost use Rattle.messages.specs.Messages.{noMessage, positionIn, staticIn, askedIn, endsPosition, endsStatic, endsAsked, decodedIn, decodedOf};
-ghost use Rattle.messages.specs.Parts.{refusedBy, endingOr, unreadBy, decodingBy};
+ghost use Rattle.messages.specs.Messages.{noMessage, staticIn, askedIn, endsStatic, endsAsked, decodedIn, decodedOf};
+ghost use Rattle.messages.specs.Parts.{refusedBy, endingOr, unreadBy, otherBy};
 
 // What a message tells. A static data report's texts and an interrogation's lists stand beside this enum, in `Message`.
 pub enum AisMessage {
@@ -80,21 +77,6 @@ fn taken(content: AisMessage, texts: Texts, interrogation: Interrogation) -> Dec
     }
 }
 
-// Types 1 to 3.
-fn parse_position(bytes: &[u8]) -> Decoded
-    ensures { λ r. ⌜ decodedIn r ≡ endingOr (endsPosition (positionOf positionTable (now (bytes .entry))))
-        (positionIn (positionOf positionTable (now (bytes .entry)))) ⌝ }
-{
-    match position_report::parse(bytes) {
-        Position::Short => return refused(Refusal::Short),
-        Position::Report(report) => {
-            let texts = static_data_report::no_texts();
-            let interrogation = interrogation::no_interrogation();
-            return taken(AisMessage::PositionReport(report), texts, interrogation);
-        }
-    }
-}
-
 // Type 24.
 fn parse_static(bytes: &[u8]) -> Decoded
     ensures { λ r. ⌜ decodedIn r ≡ endingOr (endsStatic (staticDataOf (now (bytes .entry)) .report))
@@ -151,12 +133,11 @@ fn unread(number: u8) -> Refusal
     }
 }
 
-// By the type.
-fn parse_type(bytes: &[u8], number: u8) -> Decoded
-    ensures { λ r. ⌜ decodedIn r ≡ decodingBy number (now (bytes .entry)) ⌝ }
+// Any type but 1 to 3.
+fn parse_other(bytes: &[u8], number: u8) -> Decoded
+    ensures { λ r. ⌜ decodedIn r ≡ otherBy number (now (bytes .entry)) ⌝ }
 {
     match number {
-        1..=3 => return parse_position(bytes),
         15 => return parse_interrogation(bytes),
         24 => return parse_static(bytes),
         _ => return refused(unread(number)),
@@ -167,8 +148,13 @@ fn parse_type(bytes: &[u8], number: u8) -> Decoded
 pub fn parse(bytes: &[u8]) -> Decoded
     ensures { λ r. ⌜ decodedIn r ≡ decodedOf (now (bytes .entry)) ⌝ }
 {
-    let Taken::Bits(number) = parsers::message_type(bytes) else {
-        return refused(Refusal::Short);
-    };
-    parse_type(bytes, number as u8)
+    match position_report::parse(bytes) {
+        Position::Report(report) => {
+            let texts = static_data_report::no_texts();
+            let interrogation = interrogation::no_interrogation();
+            return taken(AisMessage::PositionReport(report), texts, interrogation);
+        }
+        Position::Short => return refused(Refusal::Short),
+        Position::OtherType(number) => return parse_other(bytes, number),
+    }
 }

@@ -10,7 +10,7 @@ use borrow.Author.Tests.{eqb-true, eq-eqb, ltb-true, ltb-false}
 use mir.Syntax.{Width, w32}
 use mir.Val.{SFits, ofZ, toZ}
 use mir.Facts.{toZ-ofZ}
-use Rattle.navigation.specs.Navigation.{eqZ, degreesOf, Placed, directionOf}
+use Rattle.navigation.specs.Navigation.{eqZ, degreesOf, Placed, sideOf}
 use Rattle.navigation.specs.declared.Reading.{Reading}
 use Rattle.navigation.specs.declared.Direction.{Direction}
 
@@ -42,16 +42,16 @@ pub a-position : (absent raw : ℤ) (x : Float) → (ofZ w32 raw ≡ ofZ w32 abs
 a-position absent raw x n e = record { is = simp (differ w32 raw absent n, e) }
 
 -- ---- the direction, by the tests that the code makes
-pub to-port : (z : ℤ) → ltZ z (pos 0) ≡ true → Direction.Port ≡ directionOf z
+pub to-port : (z : ℤ) → ltZ z (pos 0) ≡ true → Direction.Port ≡ sideOf z
 to-port (pos n) h = absurd (not-suc-le-zero (ltb-true n 0 h))
 to-port (negsuc n) h = refl
 
-pub to-starboard : (z : ℤ) → ltZ (pos 0) z ≡ true → Direction.Starboard ≡ directionOf z
+pub to-starboard : (z : ℤ) → ltZ (pos 0) z ≡ true → Direction.Starboard ≡ sideOf z
 to-starboard (pos zero) h = absurd (not-suc-le-zero (ltb-true 0 0 h))
 to-starboard (pos (suc n)) h = refl
 to-starboard (negsuc n) h = cc
 
-pub to-neither : (z : ℤ) → ltZ z (pos 0) ≡ false → ltZ (pos 0) z ≡ false → Direction.Absent ≡ directionOf z
+pub to-neither : (z : ℤ) → ltZ z (pos 0) ≡ false → ltZ (pos 0) z ≡ false → Direction.Absent ≡ sideOf z
 to-neither (pos zero) h k = refl
 to-neither (pos (suc n)) h k = absurd (not-suc-le-zero (ltb-false 0 (suc n) k))
 to-neither (negsuc n) h k = cc

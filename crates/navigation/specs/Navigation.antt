@@ -94,26 +94,34 @@ accuracyNumber Accuracy.Unaugmented = 0
 accuracyNumber Accuracy.Dgps = 1
 
 -- ---- "Absent: .. turn -128"
-abbrev pub turnOf : ℤ → Turn
-turnOf raw = pick (eqZ raw (negℤ (pos 128))) Turn.Absent (Turn.Of (record { raw = raw }))
+abbrev pub noTurn : ℤ → Bool
+noTurn raw = eqZ raw (negℤ (pos 128))
 
--- "Turn rate is (raw / 4.733) times itself, each operation rounded, absent at -127 and 127". -128 never comes here: it is no turn
+-- the turn of a report
+abbrev pub turnOf : ℤ → Turn
+turnOf raw = pick (noTurn raw) Turn.Absent (Turn.Of (record { raw = raw }))
+
+-- "Turn rate is (raw / 4.733) times itself, each operation rounded"
 abbrev pub rootOf : ℤ → Float
 rootOf raw = div binary32 (ofInt binary32 raw) (single 4733 1000)
 
--- the turns that have no rate
+-- "absent at -127 and 127", and where there is no turn
 abbrev pub noRate : ℤ → Bool
-noRate raw = eqZ raw (negℤ (pos 127)) || eqZ raw (pos 127)
+noRate raw = noTurn raw || eqZ raw (negℤ (pos 127)) || eqZ raw (pos 127)
 
 -- the rate of turn, in degrees a minute
 abbrev pub rateOf : ℤ → Reading
 rateOf raw = unless (noRate raw) (mul binary32 (rootOf raw) (rootOf raw))
 
 -- "direction is port below 0, starboard above, none at 0"
+abbrev pub sideOf : ℤ → Direction
+sideOf (negsuc n) = Direction.Port
+sideOf (pos zero) = Direction.Absent
+sideOf (pos (suc n)) = Direction.Starboard
+
+-- the direction of a turn, none where there is no turn
 abbrev pub directionOf : ℤ → Direction
-directionOf (negsuc n) = Direction.Port
-directionOf (pos zero) = Direction.Absent
-directionOf (pos (suc n)) = Direction.Starboard
+directionOf raw = pick (noTurn raw) Direction.Absent (sideOf raw)
 
 -- ---- "Absent: .. manoeuvre 0". The AIVDM description: 1 "No special maneuver", 2 "Special maneuver"
 abbrev pub manoeuvreOf : ℕ → ManeuverIndicator

@@ -138,12 +138,13 @@ impl RateOfTurn {
         }
     }
 
-    // The rate in degrees a minute.
+    // The rate in degrees a minute. A caller can build a turn of -128, which is no turn and tells none.
     pub fn rate(self) -> Reading
         ensures { λ r. ⌜ r ≡ rateOf (self .raw) ⌝ }
     {
         let raw = self.raw;
         match raw {
+            -128 => Reading::Absent,
             -127 => Reading::Absent,
             127 => Reading::Absent,
             _ => {
@@ -153,11 +154,14 @@ impl RateOfTurn {
         }
     }
 
-    // The direction.
+    // The direction. -128 tells none here either.
     pub fn direction(self) -> Direction
         ensures { λ r. ⌜ r ≡ directionOf (self .raw) ⌝ }
     {
         let raw = self.raw;
+        if raw == -128 {
+            return Direction::Absent;
+        }
         if raw < 0 {
             return Direction::Port;
         }

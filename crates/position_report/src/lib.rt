@@ -3,7 +3,7 @@ ghost use mathlib.Core.Path.{_≡_};
 ghost use Rattle.parsers.specs.Table.{numberAt, signedAt};
 ghost use Rattle.navigation.specs.Navigation.{turnOf};
 ghost use Rattle.position_report.specs.Table.{positionTable};
-ghost use Rattle.position_report.specs.Report.{statusOf, statusNumber, rateIn, directionIn, reportOf, positionOf};
+ghost use Rattle.position_report.specs.Report.{statusOf, statusNumber, rateIn, directionIn, reportWith, reportIn, answerOf};
 use navigation::Accuracy;
 use navigation::Direction;
 use navigation::Heading;
@@ -11,6 +11,8 @@ use navigation::ManeuverIndicator;
 use navigation::RateOfTurn;
 use navigation::Reading;
 use navigation::Turn;
+use parsers::Taken;
+use radio_status::Radio;
 use radio_status::RadioStatus;
 
 // What a ship says that it is doing.
@@ -109,10 +111,11 @@ pub struct PositionReport {
     pub radio_status: RadioStatus,
 }
 
-// A report, or that the message ends inside a field of it.
+// A report; that the message ends inside a field of it; or that its type is another.
 pub enum Position {
     Report(PositionReport),
     Short,
+    OtherType(u8),
 }
 
 // The turn of a report.
@@ -142,9 +145,9 @@ fn direction_in(turn: Turn) -> Direction
     }
 }
 
-// The report in these bytes, field by field; the bits past their end are zeros.
-fn parse_base(bytes: &[u8]) -> PositionReport
-    ensures { λ r. ⌜ r ≡ reportOf positionTable (now (bytes .entry)) ⌝ }
+// The report in these bytes, field by field, with its radio status.
+fn parse_base(bytes: &[u8], status: RadioStatus) -> PositionReport
+    ensures { λ r. ⌜ r ≡ reportWith positionTable (now (bytes .entry)) status ⌝ }
 {
     let message_type = parsers::field(bytes, 0, 6) as u8;
     let rate_of_turn = turn_in(bytes);
@@ -173,16 +176,20 @@ fn parse_base(bytes: &[u8]) -> PositionReport
         timestamp: parsers::field(bytes, 137, 6) as u8,
         maneuver_indicator: ManeuverIndicator::parse(parsers::field(bytes, 143, 2) as u8),
         raim: parsers::field(bytes, 148, 1) == 1,
-        radio_status: radio_status::parse_radio(bytes, message_type),
+        radio_status: status,
     }
 }
 
-// The report in these bytes, whatever its type. 21 bytes hold its 168 bits, the fill's zeros among them.
+// The report in these bytes, of any type and length. Its radio status is its last field: whoever has that has a report's type and length.
 pub fn parse(bytes: &[u8]) -> Position
-    ensures { λ r. ⌜ r ≡ positionOf positionTable (now (bytes .entry)) ⌝ }
+    ensures { λ r. ⌜ reportIn r ≡ answerOf positionTable (now (bytes .entry)) ⌝ }
 {
-    if bytes.len() < 21 {
+    let Taken::Bits(number) = parsers::message_type(bytes) else {
         return Position::Short;
+    };
+    match radio_status::parse_radio(bytes, number as u8) {
+        Radio::Status(status) => return Position::Report(parse_base(bytes, status)),
+        Radio::Short => return Position::Short,
+        Radio::OtherType(other) => return Position::OtherType(other),
     }
-    Position::Report(parse_base(bytes))
 }

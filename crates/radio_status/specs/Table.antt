@@ -1,5 +1,6 @@
 -- The table of the radio status: the last 19 of a position report's 168 bits (document 01, 'Fields and types'; the AIVDM description, "149-167 | 19 | Radio
 -- status").
+use mathlib.Core.List.{List, [], _∷_}
 use Rattle.parsers.specs.Table.{Span, span}
 
 -- the rows by meaning. Another layout is another value of this type
@@ -30,3 +31,10 @@ radioTable = record {
   slots = span 164 3;
   keep = span 167 1;
 }
+
+-- the rows of either status in the order in which they are sent
+abbrev pub sotdmaRows : Layout → List Span
+sotdmaRows t = t .sync ∷ t .timeout ∷ t .sub ∷ []
+
+abbrev pub itdmaRows : Layout → List Span
+itdmaRows t = t .sync ∷ t .increment ∷ t .slots ∷ t .keep ∷ []

@@ -2,7 +2,7 @@
 use parsers::Text;
 ghost use mathlib.Core.Path.{_≡_};
 ghost use Rattle.static_data_report.specs.Table.{table};
-ghost use Rattle.static_data_report.specs.StaticData.{noTexts, nameOf, partBOf, partBTextsOf, reportOf, noReport, Tells};
+ghost use Rattle.static_data_report.specs.StaticData.{noTexts, nameOf, partBOf, partBTextsOf, reportOf, noReport, Reports};
 
 // Part B's numbers. The ship type is the number as sent.
 pub struct PartB {
@@ -127,7 +127,7 @@ fn no_report() -> StaticData
 
 // Reads the unarmored bytes of a type 24 message. Part A needs 20 bytes, part B 21, an unknown part 5.
 pub fn parse(bytes: &[u8]) -> StaticData
-    ensures { λ r. ⌜ Tells (now (bytes .entry)) r ⌝ }
+    ensures { λ r. ⌜ Reports (now (bytes .entry)) r ⌝ }
 {
     if bytes.len() < 5 {
         return no_report();
