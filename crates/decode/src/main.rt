@@ -1,77 +1,314 @@
-// AIS lines from standard input, as a receiver or a log gives them, to a JSON object for each complete message and each refused line.
+// AIS lines, as a receiver or a log gives them, to a JSON object for each complete message and each refused line.
+use arguments::Word;
+use decoding::Asked;
 use json::Kept;
+use libc::STDIN_FILENO;
+use libc::STDOUT_FILENO;
+use stream::Came;
 use stream::Input;
 use stream::Next;
 
-// Document 01: "line over 1,024 bytes" is refused. A CR before the LF is not one of them.
-const MOST: u16 = 1024;
+const USAGE: [u8; 373] = *b"usage: decode [--quiet] [--summary] [FILE..]\n\
+      Reads AIS lines from the files in turn, or from standard input where none is named or the name is -,\n\
+      and writes a JSON object for each complete message and each refused line, one to a line.\n  \
+      --quiet    no objects for refused lines\n  \
+      --summary  at the end, counts by type and by refusal on standard error\n  \
+      --help     this text\n";
 
-// How far the input was taken, and what is kept of its lines.
+// How far a run is: on its way, at the end of an input, or stopped by a call that failed, which was said.
+enum Way {
+    On,
+    Ended,
+    Failed,
+}
+
+// How far the input was taken, what is kept of its lines, and how far the run is.
 struct Run {
     input: Input,
     kept: Kept,
+    way: Way,
 }
 
-// What came is answered.
-fn answer_next(s: Kept, next: Next, line: &[u8], out: &mut [u8]) -> Kept {
-    match next {
-        Next::Line(n) => json::answer_line(s, n, line, out),
-        Next::TooLong => json::answer_long(s, out),
-        Next::Nothing => s,
+// What is kept once the output buffer was written.
+fn written(kept: Kept) -> Kept {
+    let state = kept.state;
+    Kept {
+        state: state,
+        number: kept.number,
+        used: 0,
+    }
+}
+
+// A run that goes on.
+fn going(input: Input, kept: Kept) -> Run {
+    Run {
+        input: input,
+        kept: kept,
+        way: Way::On,
+    }
+}
+
+// A run that a call stopped: which one, is said.
+fn failed(input: Input, kept: Kept, doing: &[u8], name: &[u8]) -> Run {
+    stream::say_failure(b"decode", kept.number, doing, name);
+    Run {
+        input: input,
+        kept: kept,
+        way: Way::Failed,
     }
 }
 
 // Writes the output buffer where it is nearly full.
-fn emptied(s: Kept, out: &[u8]) -> Kept {
-    let state = s.state;
-    Kept {
-        state: state,
-        number: s.number,
-        used: stream::emptied(out, s.used),
+fn emptied(input: Input, kept: Kept, out: &[u8]) -> Run {
+    if !stream::is_full(kept.used) {
+        return going(input, kept);
+    }
+    if stream::write_out(STDOUT_FILENO, out, kept.used) {
+        return going(input, written(kept));
+    }
+    failed(input, kept, b"writing", b"standard output")
+}
+
+// No line ends in the block: what was told is written, and more is read. At the end of the input what is held is a last line.
+fn go_on(
+    input: Input,
+    kept: Kept,
+    from: i32,
+    name: &[u8],
+    block: &mut [u8],
+    line: &[u8],
+    out: &mut [u8],
+) -> Run {
+    let f = stream::read_on(input, from, block, STDOUT_FILENO, out, kept.used);
+    let rest = f.input;
+    let came = f.came;
+    match came {
+        Came::More => going(rest, written(kept)),
+        Came::End => at_end(rest, written(kept), line, out),
+        Came::Unread => failed(rest, written(kept), b"reading", name),
+        Came::Unwritten => failed(rest, kept, b"writing", b"standard output"),
+    }
+}
+
+// The last line of an input.
+fn at_end(input: Input, kept: Kept, line: &[u8], out: &mut [u8]) -> Run {
+    let t = decoding::last_turn(input, kept, line, out);
+    let rest = t.input;
+    let told = t.kept;
+    Run {
+        input: rest,
+        kept: told,
+        way: Way::Ended,
     }
 }
 
 // The next line, answered.
-fn answer_one(s: Run, block: &mut [u8], line: &mut [u8], out: &mut [u8]) -> Run {
+fn answer_one(
+    s: Run,
+    from: i32,
+    name: &[u8],
+    block: &mut [u8],
+    line: &mut [u8],
+    out: &mut [u8],
+) -> Run {
     let input = s.input;
     let kept = s.kept;
-    let t = stream::next_line(input, MOST, true, block, line);
+    let t = decoding::turn(input, kept, block, line, out);
     let rest = t.input;
+    let told = t.kept;
     let next = t.next;
-    let told = answer_next(kept, next, line, out);
-    Run {
-        input: rest,
-        kept: emptied(told, out),
+    match next {
+        Next::Line(_) => emptied(rest, told, out),
+        Next::TooLong => emptied(rest, told, out),
+        Next::Nothing => go_on(rest, told, from, name, block, line, out),
+        Next::Room => failed(rest, told, b"a line's buffer is too short for", name),
     }
 }
 
-// All lines. Nothing says that the input ends, so the loop counts its rounds down, from a number that no run uses up.
-// Answers how much of the output buffer is in use at the end.
-fn answer_all(s: Run, block: &mut [u8], line: &mut [u8], out: &mut [u8]) -> usize {
+// Whether a run goes on.
+fn is_on(way: Way) -> bool {
+    match way {
+        Way::On => true,
+        Way::Ended => false,
+        Way::Failed => false,
+    }
+}
+
+// All lines of an input. Nothing says that it ends, so the loop counts its rounds down, from a number that no run uses up.
+fn answer_all(
+    s: Run,
+    from: i32,
+    name: &[u8],
+    block: &mut [u8],
+    line: &mut [u8],
+    out: &mut [u8],
+) -> Run {
     let mut now = s;
     let mut rounds = u64::MAX;
     while rounds > 0 {
-        now = answer_one(now, block, line, out);
-        if !now.input.more {
-            return now.kept.used;
+        now = answer_one(now, from, name, block, line, out);
+        let way = now.way;
+        if !is_on(way) {
+            return now;
         }
         rounds -= 1;
     }
-    now.kept.used
+    now
 }
 
-fn main() {
+// The input that argument i names, if it names one.
+fn answer_argument(s: Run, i: usize, block: &mut [u8], line: &mut [u8], out: &mut [u8]) -> Run {
+    let mut name = io::buffer();
+    let n = os::arg(i, &mut name);
+    match arguments::word_of(&name[..n]) {
+        Word::Input => answer_input(s, &name[..n], block, line, out),
+        Word::Help => s,
+        Word::Status => s,
+        Word::Option => s,
+    }
+}
+
+// The input of a name: its lines, from where the one before ended.
+fn answer_input(s: Run, name: &[u8], block: &mut [u8], line: &mut [u8], out: &mut [u8]) -> Run {
+    let from = arguments::open(name);
+    let kept = s.kept;
+    if from < 0 {
+        return failed(s.input, kept, b"opening", name);
+    }
+    let end = answer_all(going(stream::start(), kept), from, name, block, line, out);
+    libc::close(from);
+    end
+}
+
+// Whether a call failed.
+fn is_failed(way: Way) -> bool {
+    match way {
+        Way::On => false,
+        Way::Ended => false,
+        Way::Failed => true,
+    }
+}
+
+// The inputs that the arguments name, in turn.
+fn answer_arguments(
+    s: Run,
+    count: usize,
+    block: &mut [u8],
+    line: &mut [u8],
+    out: &mut [u8],
+) -> Run {
+    let mut now = s;
+    let mut i = 1;
+    while i < count {
+        now = answer_argument(now, i, block, line, out);
+        let way = now.way;
+        if is_failed(way) {
+            return now;
+        }
+        i += 1;
+    }
+    now
+}
+
+// What the arguments ask.
+fn ask(count: usize) -> Asked {
+    let mut asked = decoding::nothing_asked();
+    let mut i = 1;
+    while i < count {
+        asked = ask_by(asked, i);
+        i += 1;
+    }
+    asked
+}
+
+// One argument more.
+fn ask_by(asked: Asked, i: usize) -> Asked {
+    let mut word = io::buffer();
+    let n = os::arg(i, &mut word);
+    decoding::asked_by(asked, &word[..n], i)
+}
+
+// Whether every file that the arguments name can be read; the first that cannot is said.
+fn are_readable(count: usize) -> bool {
+    let mut i = 1;
+    while i < count {
+        if !arguments::is_readable(b"decode", i) {
+            return false;
+        }
+        i += 1;
+    }
+    true
+}
+
+// The inputs that are named, or standard input where none is.
+fn answer_inputs(
+    s: Run,
+    named: bool,
+    count: usize,
+    block: &mut [u8],
+    line: &mut [u8],
+    out: &mut [u8],
+) -> Run {
+    if named {
+        return answer_arguments(s, count, block, line, out);
+    }
+    answer_all(s, STDIN_FILENO, b"standard input", block, line, out)
+}
+
+// All inputs, and what is left in the output buffer. Answers the status: 0 where all went well, 1 where a call failed.
+fn answer_asked(asked: Asked, count: usize) -> u8 {
     let mut out = io::large_buffer();
     let mut block = io::large_buffer();
     let mut line = [0u8; 1024];
-    let input = stream::start();
     let fresh = reassembly::fresh();
     let kept = Kept {
         state: fresh,
         number: 0,
         used: 0,
     };
-    let begun = Run { input, kept };
-    let used = answer_all(begun, &mut block, &mut line, &mut out);
-    stream::write_out(&out, used);
+    let begun = going(stream::start(), kept);
+    let end = answer_inputs(begun, asked.inputs, count, &mut block, &mut line, &mut out);
+    finish(end, &out)
+}
+
+// What was told and is not written yet.
+fn finish(end: Run, out: &[u8]) -> u8 {
+    let way = end.way;
+    let kept = end.kept;
+    if is_failed(way) {
+        return 1;
+    }
+    if stream::write_out(STDOUT_FILENO, out, kept.used) {
+        return 0;
+    }
+    stream::say_failure(b"decode", kept.number, b"writing", b"standard output");
+    1
+}
+
+// What is asked, done. Answers the status.
+fn answer(asked: Asked, count: usize) -> u8 {
+    if asked.help {
+        return if stream::write_out(STDOUT_FILENO, &USAGE, USAGE.len()) {
+            0
+        } else {
+            1
+        };
+    }
+    if asked.unknown > 0 {
+        arguments::say_unknown(b"decode", asked.unknown);
+        return 2;
+    }
+    if !are_readable(count) {
+        return 2;
+    }
+    answer_asked(asked, count)
+}
+
+fn main() {
+    let count = os::arg_count();
+    let asked = ask(count);
+    let status = answer(asked, count);
+    if asked.status {
+        arguments::tell_status(status);
+    }
 }

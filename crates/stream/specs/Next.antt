@@ -1,11 +1,8 @@
 -- The next line of a block of input, over what a collector does.
 use Prim.Native.Nat.{ℕ}
-use mathlib.Core.Path.{_≡_}
-use mathlib.Core.Bool.{Bool, true, false}
+use mathlib.Core.Bool.{Bool}
 use mathlib.Core.List.{List}
 use lib.ListN.{length, take}
-use lib.Dec.{ltb}
-use Rattle.refusal.specs.Words.{pick}
 use Rattle.lines.specs.declared.Event.{Event}
 use Rattle.lines.specs.Collect.{collectOf, lastOf, nextOf}
 use Rattle.stream.specs.declared.Input.{Input}
@@ -14,14 +11,14 @@ use Rattle.stream.specs.declared.Taken.{Taken}
 
 -- before anything is read
 abbrev pub atStart : Input
-atStart = record { held = 0; from = 0; filled = 0; more = true }
+atStart = record { held = 0; from = 0; filled = 0 }
 
 -- what an event of a collector is to a program
 abbrev pub nextBy : Event → Next
 nextBy (Event.Line n from) = Next.Line n
 nextBy (Event.TooLong from) = Next.TooLong
 nextBy Event.Held = Next.Nothing
-nextBy Event.Room = Next.Nothing
+nextBy Event.Room = Next.Room
 
 -- what a call gives back, and the line's buffer after it
 pub record Given : Type 0 where
@@ -36,22 +33,9 @@ abbrev pub inBlock : ℕ → Bool → Input → List ℕ → List ℕ → Given
 inBlock m strip input block buf =
     let b = take (input .filled) block in
     let c = collectOf m strip (input .held) b (input .from) buf in
-    let rest : Input = record { held = c .len; from = nextOf (c .event) (length b); filled = length b; more = input .more } in
+    let rest : Input = record { held = c .len; from = nextOf (c .event) (length b); filled = length b } in
     takenWith (record { input = rest; next = nextBy (c .event) }) (c .line)
 
 -- at the end of the input: bytes that are held are a last line
-abbrev pub atEnd : ℕ → Bool → ℕ → List ℕ → Taken
-atEnd m strip held buf = record { input = record { held = 0; from = 0; filled = 0; more = false }; next = nextBy (lastOf m strip held buf) }
-
--- of what the block gives and what was given: they are equal where a line ends in the block. Of what is read no promise can speak.
-abbrev pub keptBy : Next → Given → Given → Type 0
-keptBy (Next.Line n) b g = g ≡ b
-keptBy Next.TooLong b g = g ≡ b
-keptBy Next.Nothing b g = Unit {0}
-
-abbrev pub Kept : Given → Given → Type 0
-Kept b g = keptBy (b .taken .next) b g
-
--- how much of an output buffer is in use after it was emptied, if it was
-abbrev pub leftOf : ℕ → ℕ
-leftOf used = pick (ltb used 49152) used 0
+abbrev pub atEnd : ℕ → Bool → Input → List ℕ → Taken
+atEnd m strip input buf = record { input = atStart; next = nextBy (lastOf m strip (input .held) buf) }

@@ -1,32 +1,59 @@
-// Standard input line by line, and standard output in large pieces: what every program needs that answers the lines it is given.
-use libc::STDIN_FILENO;
-use libc::STDOUT_FILENO;
+// Input line by line and output in large pieces, for every program that answers the lines it is given. What the system's calls do is assumed; what is
+// taken out of a block, what a read leaves as it was and what is said of a call that failed are promised.
+use libc::STDERR_FILENO;
 use lines::Collector;
 use lines::Event;
 ghost use mathlib.Core.Path.{_≡_};
+ghost use Prim.Native.Nat.{_≤_};
+ghost use lib.Dec.{leb};
+ghost use lib.ListN.{length};
 ghost use Rattle.lines.specs.Collect.{nextOf};
-ghost use Rattle.stream.specs.Next.{atStart, nextBy, takenWith, inBlock, atEnd, Kept, leftOf};
+ghost use Rattle.text_out.specs.Text.{text, put};
+ghost use Rattle.stream.specs.Next.{atStart, nextBy, takenWith, inBlock, atEnd};
+ghost use Rattle.stream.specs.Moves.{Fills, Brings, failureText};
 
-// How far standard input was taken: how many bytes are held of a line that is not yet ended, the place in the block to go on from, how many bytes the
-// block has, and whether there may be more to read.
+// How far the input was taken: how many bytes are held of a line that is not yet ended, the place in the block to go on from, and how many bytes the
+// block has.
 pub struct Input {
     pub held: usize,
     pub from: usize,
     pub filled: usize,
-    pub more: bool,
 }
 
-// What comes next: a line, whose bytes stand first in the line's buffer; one that is too long; or nothing yet.
+// What comes next: a line, whose bytes stand first in the line's buffer; one that is too long; nothing until the block is read anew; or the line's
+// buffer is too short.
 pub enum Next {
     Line(usize),
     TooLong,
     Nothing,
+    Room,
 }
 
 // What a call gives back.
 pub struct Taken {
     pub input: Input,
     pub next: Next,
+}
+
+// What reading on brought: more of the input, its end, or a call that failed, to read or to write.
+pub enum Came {
+    More,
+    End,
+    Unread,
+    Unwritten,
+}
+
+// What a call that reads on gives back.
+pub struct Filled {
+    pub input: Input,
+    pub came: Came,
+}
+
+// What a read brought: bytes of the block, from its start on; none, since the input has ended; or it failed.
+enum Got {
+    Bytes(usize),
+    Nothing,
+    Failed,
 }
 
 // Before anything is read.
@@ -37,25 +64,11 @@ pub fn start() -> Input
         held: 0,
         from: 0,
         filled: 0,
-        more: true,
     }
 }
 
-// The next line of at most `most` bytes, one CR before its LF removed or kept. Where no line ends in what is left of the block, it is read anew,
-// and bytes that are left at the end of the input are a last line.
-pub fn next_line(input: Input, most: u16, strip: bool, block: &mut [u8], line: &mut [u8]) -> Taken
-    ensures { λ r. ⌜ Kept (inBlock most strip input (now (block .entry)) (now (line .entry))) (takenWith r (now (line .exit))) ⌝ }
-{
-    let t = in_block(input, most, strip, block, line);
-    let next = t.next;
-    if let Next::Nothing = next {
-        return read_on(t.input.held, most, strip, block, line);
-    }
-    t
-}
-
-// The next line that ends in the block.
-fn in_block(input: Input, most: u16, strip: bool, block: &[u8], line: &mut [u8]) -> Taken
+// The next line of at most `most` bytes that ends in the block, one CR before its LF removed or kept.
+pub fn next_line(input: Input, most: u16, strip: bool, block: &[u8], line: &mut [u8]) -> Taken
     ensures { λ r. ⌜ takenWith r (now (line .exit)) ≡ inBlock most strip input (now (block .entry)) (now (line .entry)) ⌝ }
 {
     let n = text_out::up_to(input.filled, block);
@@ -67,8 +80,18 @@ fn in_block(input: Input, most: u16, strip: bool, block: &[u8], line: &mut [u8])
             held: c.state.len,
             from: next_from(event, n),
             filled: n,
-            more: input.more,
         },
+        next: next_by(event),
+    }
+}
+
+// At the end of the input: bytes that are held are a last line.
+pub fn last_line(input: Input, most: u16, strip: bool, line: &[u8]) -> Taken
+    ensures { λ r. ⌜ r ≡ atEnd most strip input (now (line .entry)) ⌝ }
+{
+    let event = lines::last(Collector { len: input.held }, most, strip, line);
+    Taken {
+        input: start(),
         next: next_by(event),
     }
 }
@@ -81,7 +104,7 @@ fn next_by(event: Event) -> Next
         Event::Line(n, _) => Next::Line(n),
         Event::TooLong(_) => Next::TooLong,
         Event::Held => Next::Nothing,
-        Event::Room => Next::Nothing,
+        Event::Room => Next::Room,
     }
 }
 
@@ -97,53 +120,151 @@ fn next_from(event: Event, all: usize) -> usize
     }
 }
 
-// Reads once, with so many bytes held.
-fn read_on(held: usize, most: u16, strip: bool, block: &mut [u8], line: &[u8]) -> Taken {
-    let got = libc::read(STDIN_FILENO, block);
-    if got <= 0 {
-        return last_line(held, most, strip, line);
+// Goes on where no line ends in what is left of the block. The first `used` bytes of the output buffer are written before anything is waited for, so
+// that whoever looks sees all that was told; then the block is read anew from the descriptor `from`.
+pub fn read_on(
+    input: Input,
+    from: i32,
+    block: &mut [u8],
+    to: i32,
+    out: &[u8],
+    used: usize,
+) -> Filled
+    ensures { λ r. ⌜ Fills input r (now (block .exit)) ⌝ }
+{
+    if !write_out(to, out, used) {
+        return stopped(input, Came::Unwritten);
     }
-    Taken {
-        input: Input {
-            held: held,
-            from: 0,
-            filled: io::count(got, block),
-            more: true,
+    match read_some(from, block) {
+        Got::Bytes(n) => Filled {
+            input: Input {
+                held: input.held,
+                from: 0,
+                filled: n,
+            },
+            came: Came::More,
         },
-        next: Next::Nothing,
+        Got::Nothing => stopped(input, Came::End),
+        Got::Failed => stopped(input, Came::Unread),
     }
 }
 
-// What is held at the end of the input.
-fn last_line(held: usize, most: u16, strip: bool, line: &[u8]) -> Taken
-    ensures { λ r. ⌜ r ≡ atEnd most strip held (now (line .entry)) ⌝ }
+// Nothing was read; what is held is kept.
+fn stopped(input: Input, came: Came) -> Filled
+    ensures { λ r. ⌜ r ≡ record { input = record { held = input .held; from = 0; filled = 0 }; came = came } ⌝ }
 {
-    let event = lines::last(Collector { len: held }, most, strip, line);
-    Taken {
+    Filled {
         input: Input {
-            held: 0,
+            held: input.held,
             from: 0,
             filled: 0,
-            more: false,
         },
-        next: next_by(event),
+        came: came,
     }
 }
 
-// Writes the first `used` bytes of the output buffer once they are three quarters of 65,536, so that there is room for what comes next.
-// Answers how many are then in use.
-pub fn emptied(out: &[u8], used: usize) -> usize
-    ensures { λ r. ⌜ r ≡ leftOf used ⌝ }
+// Reads once, and again where a call was interrupted or would have had to wait.
+fn read_some(from: i32, block: &mut [u8]) -> Got
+    ensures { λ r. ⌜ Brings r (now (block .exit)) ⌝ }
 {
-    if used < 49152 {
-        return used;
+    let mut tries = u64::MAX;
+    while tries > 0 {
+        let got = libc::read(from, block);
+        let n = io::count(got, block);
+        if n > 0 {
+            return Got::Bytes(n);
+        }
+        if got == 0 {
+            return Got::Nothing;
+        }
+        if !is_for_again() {
+            return Got::Failed;
+        }
+        tries -= 1;
     }
-    write_out(out, used);
-    0
+    Got::Failed
 }
 
-// Writes the first `used` bytes of the output buffer.
-pub fn write_out(out: &[u8], used: usize) {
+// Whether the call that just failed is to be tried again: a signal interrupted it, or it would have had to wait, and a while has passed.
+fn is_for_again() -> bool {
+    let error = os::errno();
+    if error == libc::EAGAIN {
+        pause::pause();
+        return true;
+    }
+    error == libc::EINTR
+}
+
+// Whether so much of an output buffer of 65,536 bytes is in use that it is written before more is put.
+pub fn is_full(used: usize) -> bool
+    ensures { λ r. ⌜ r ≡ leb 49152 used ⌝ }
+{
+    49152 <= used
+}
+
+// Writes the first `used` bytes of the output buffer, and answers whether all of them were taken.
+pub fn write_out(to: i32, out: &[u8], used: usize) -> bool {
     let n = text_out::up_to(used, out);
-    io::write_all(STDOUT_FILENO, &out[..n]);
+    write_all(to, &out[..n])
+}
+
+// Writes all of the bytes, again where a call was interrupted or would have had to wait, until one fails.
+fn write_all(to: i32, bytes: &[u8]) -> bool {
+    let mut done = 0;
+    let mut tries = u64::MAX;
+    while done < bytes.len() {
+        let put = write_some(to, &bytes[done..]);
+        if put == 0 {
+            if !is_for_again() {
+                return false;
+            }
+        }
+        if tries == 0 {
+            return false;
+        }
+        tries -= 1;
+        done += put;
+    }
+    true
+}
+
+// Writes once, and answers how many bytes were taken; none where the call failed.
+fn write_some(to: i32, bytes: &[u8]) -> usize
+    ensures { λ r. ⌜ r ≤ length (now (bytes .entry)) ⌝ }
+{
+    io::count(libc::write(to, bytes), bytes)
+}
+
+// Says on standard error that a call failed: the program, after which line of the input, what it did and with what, and the system's reason.
+pub fn say_failure(program: &[u8], number: u64, doing: &[u8], name: &[u8]) {
+    let mut words = io::buffer();
+    let n = put_failure(&mut words, 0, program, number, doing, name);
+    let k = text_out::up_to(n, &words);
+    os::fail(&words[..k]);
+}
+
+// The words before the system's reason.
+pub fn put_failure(
+    out: &mut [u8],
+    at: usize,
+    program: &[u8],
+    number: u64,
+    doing: &[u8],
+    name: &[u8],
+) -> usize
+    ensures { λ r. ⌜ text r (now (out .exit))
+        ≡ put (text at (now (out .entry))) (failureText (now (program .entry)) number (now (doing .entry)) (now (name .entry))) ⌝ }
+{
+    let a = text_out::put_bytes(out, at, program);
+    let b = text_out::put_bytes(out, a, b": after input line ");
+    let c = text_out::put_decimal(out, b, number);
+    let d = text_out::put_bytes(out, c, b", ");
+    let e = text_out::put_bytes(out, d, doing);
+    let f = text_out::put_byte(out, e, b' ');
+    text_out::put_bytes(out, f, name)
+}
+
+// Says the first `used` bytes of a buffer on standard error. Where that fails there is nobody left to tell.
+pub fn say(words: &[u8], used: usize) {
+    write_out(STDERR_FILENO, words, used);
 }

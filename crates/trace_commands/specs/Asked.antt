@@ -5,7 +5,8 @@ use lib.Dec.{eqb, leb}
 use Rattle.refusal.specs.Words.{pick}
 use Rattle.text_out.specs.Text.{ascii}
 use Rattle.answer.specs.Answer.{decodeOf}
-use Rattle.trace_words.specs.Line.{wordAt, countOf, sameAs}
+use Rattle.trace_words.specs.Line.{wordAt, countOf}
+use Rattle.text_in.specs.Same.{sameAs}
 use Rattle.trace_words.specs.Numbers.{numberOf}
 use Rattle.trace_words.specs.declared.Number.{Number}
 use Rattle.trace_words.specs.declared.Filled.{Filled}

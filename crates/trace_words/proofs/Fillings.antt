@@ -10,10 +10,10 @@ use borrow.Author.Tests.{le-leb, lt-leb}
 use Rattle.refusal.specs.Words.{over}
 use Rattle.text_out.specs.Text.{Text, text, put, ascii}
 use Rattle.text_out.proofs.Laws.{put-fits}
-use Rattle.trace_words.specs.Line.{sameAs}
+use Rattle.text_in.specs.Same.{sameAs}
 use Rattle.trace_words.specs.Hex.{allHex, bytesOf, pairsOf, filledOf, leftOf, Fills}
 use Rattle.trace_words.specs.declared.Filled.the-variants.{Bytes, Bad}
-use Rattle.trace_words.proofs.Cuts.{both, same-is}
+use Rattle.text_in.proofs.Laws.{both, same-is}
 use Rattle.trace_words.proofs.Readings.{bytes-length}
 
 -- a word of pairs is hex

@@ -8,10 +8,10 @@ use lib.ListN.{length, take, drop}
 use lib.Seq.{take-at}
 use Rattle.refusal.specs.Words.{over}
 use Rattle.text_out.specs.Text.{ascii}
-use Rattle.trace_words.specs.Line.{sameAs}
+use Rattle.text_in.specs.Same.{sameAs}
 use Rattle.trace_words.specs.Hex.{bytesOf, readable, filledOf, leftOf, Fills}
 use Rattle.trace_words.specs.declared.Filled.the-variants.{Bytes, Bad}
-use Rattle.trace_words.proofs.Cuts.{same-is}
+use Rattle.text_in.proofs.Laws.{same-is}
 use Rattle.trace_words.proofs.Readings.{bytes-length}
 
 -- a word that was read is `-`, or readable

@@ -15,7 +15,7 @@ use Rattle.text_out.proofs.Laws.{put-put}
 use Rattle.trace_words.specs.Numbers.{digitOf, numberFrom}
 use Rattle.trace_words.specs.Hex.{allHex, bytesOf}
 use Rattle.trace_words.specs.declared.Number.the-variants.{Of, Bad}
-use Rattle.trace_words.proofs.Cuts.{both}
+use Rattle.text_in.proofs.Laws.{both}
 
 -- a byte, by where it lies
 module _ (x : ℕ) where

@@ -7,7 +7,7 @@ use lib.ListN.{length}
 use lib.Dec.{eqb, leb, ltb}
 use Rattle.refusal.specs.Words.{pick, over}
 use Rattle.text_out.specs.Text.{ascii}
-use Rattle.trace_words.specs.Line.{sameAs}
+use Rattle.text_in.specs.Same.{sameAs}
 use Rattle.trace_words.specs.Numbers.{digitOf}
 use Rattle.trace_words.specs.declared.Filled.{Filled}
 use Rattle.trace_words.specs.declared.Filled.the-variants.{Bytes, Bad}

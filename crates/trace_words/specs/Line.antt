@@ -1,7 +1,6 @@
 -- The words of a command line: what stands between single spaces.
 use Prim.Native.Nat.{ℕ, zero, suc, _+_, _-_, _≤_}
 use mathlib.Core.Path.{_≡_}
-use mathlib.Core.Bool.{Bool, true, false, _&&_}
 use mathlib.Core.List.{List, [], _∷_}
 use lib.ListN.{length, take, drop}
 use lib.Dec.{eqb}
@@ -17,13 +16,6 @@ wordAt (suc k) (x ∷ s) = pick (eqb x 32) (wordAt k s) (wordAt (suc k) s)
 unfoldable pub countOf : List ℕ → ℕ
 countOf [] = 1
 countOf (x ∷ s) = pick (eqb x 32) (countOf s + 1) (countOf s)
-
--- whether two words are the same, byte by byte
-unfoldable pub sameAs : List ℕ → List ℕ → Bool
-sameAs [] [] = true
-sameAs [] (y ∷ t) = false
-sameAs (x ∷ s) [] = false
-sameAs (x ∷ s) (y ∷ t) = eqb x y && sameAs s t
 
 -- the word w stands in a line from the one place to the other
 pub record Stands (w line : List ℕ) (from to : ℕ) : Type 0 where

@@ -3,7 +3,8 @@ ghost use mathlib.Core.Path.{_≡_};
 ghost use mathlib.Core.Bool.{true};
 ghost use Prim.Native.Nat.{_≤_};
 ghost use lib.ListN.{length, drop};
-ghost use Rattle.trace_words.specs.Line.{wordAt, countOf, sameAs, Stands};
+ghost use Rattle.trace_words.specs.Line.{wordAt, countOf, Stands};
+ghost use Rattle.text_in.specs.Same.{sameAs};
 ghost use Rattle.trace_words.specs.Numbers.{digitOf, numberOf};
 ghost use Rattle.trace_words.specs.Hex.{allHex, bytesOf, pairsOf, Fills};
 ghost use Rattle.text_out.specs.Text.{text, put};
@@ -48,7 +49,7 @@ pub fn named(line: &[u8], k: usize, name: &[u8]) -> bool
     let w = word(line, k);
     let from = w.from;
     let to = w.to;
-    same(&line[from..to], name)
+    text_in::same(&line[from..to], name)
 }
 
 // Word k as a decimal: one or more digits, leading zeros allowed, of a number of 64 bits.
@@ -113,23 +114,6 @@ fn end(line: &[u8], from: usize) -> usize
     i
 }
 
-// Whether two strings of bytes are the same.
-fn same(s: &[u8], t: &[u8]) -> bool
-    ensures { λ r. ⌜ r ≡ sameAs (now (s .entry)) (now (t .entry)) ⌝ }
-{
-    if s.len() != t.len() {
-        return false;
-    }
-    let mut i = 0;
-    while i < s.len() {
-        if s[i] != t[i] {
-            return false;
-        }
-        i += 1;
-    }
-    true
-}
-
 // A byte's value as a digit, 16 where it is none.
 fn digit(b: u8) -> u8
     ensures { λ r. ⌜ r ≡ digitOf b ⌝ }
@@ -168,7 +152,7 @@ fn value(w: &[u8]) -> Number
 fn read(w: &[u8], into: &mut [u8]) -> Filled
     ensures { λ r. ⌜ Fills (now (w .entry)) (now (into .entry)) r (now (into .exit)) ⌝ }
 {
-    if same(w, b"-") {
+    if text_in::same(w, b"-") {
         return Filled::Bytes(0);
     }
     if !pairs(w) {

@@ -2,7 +2,7 @@
 use Prim.Native.Nat.{ℕ}
 use mathlib.Core.Path.{ap, _∙_}
 use mathlib.Core.List.{List}
-use Rattle.trace_words.specs.Line.{sameAs}
+use Rattle.text_in.specs.Same.{sameAs}
 use borrow.Author.Needs.{needs}
 use Rattle.trace_words.proofs.named.Statement.{statement}
 use Rattle.trace_words.proofs.named.Tie as tie

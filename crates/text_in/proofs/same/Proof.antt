@@ -1,13 +1,13 @@
--- `trace_words::same` meets its contract: what is left is the same if the whole is. Assumes nothing.
+-- `text_in::same` meets its contract: what is left is the same if the whole is. Assumes nothing.
 use Prim.Native.Nat.{_-_}
 use native.Mathlib.Omega.{arith}
 use mathlib.Core.Path.{_≡_, _∙_}
 use lib.ListN.{length, drop}
-use Rattle.trace_words.specs.Line.{sameAs}
-use Rattle.trace_words.proofs.Cuts.{lengths-differ, same-next, same-not, same-end}
+use Rattle.text_in.specs.Same.{sameAs}
+use Rattle.text_in.proofs.Laws.{lengths-differ, same-next, same-not, same-end}
 use borrow.Author.Needs.{needs}
-use Rattle.trace_words.proofs.same.Statement.{statement}
-use Rattle.trace_words.proofs.same.Tie as tie
+use Rattle.text_in.proofs.same.Statement.{statement}
+use Rattle.text_in.proofs.same.Tie as tie
 
 abbrev Inv-loop : tie.InvT-loop
 Inv-loop s t i₀ i = (length s ≡ length t) × (sameAs (drop i s) (drop i t) ≡ sameAs s t)

@@ -1,0 +1,118 @@
+// Program `decode` but for the system's calls: its turn, in which a line is taken out of the block and answered and what is not of that line is kept;
+// and what the words of its command line ask.
+use arguments::Word;
+use json::Kept;
+use stream::Input;
+use stream::Next;
+ghost use mathlib.Core.Path.{_≡_};
+ghost use Rattle.decoding.specs.Turn.{answeredOf, answeredIn, turnOf, turnIn, lastOf, lastIn};
+ghost use Rattle.decoding.specs.Asked.{askedNothing, askedBy, optionBy};
+
+// Document 01: "line over 1,024 bytes" is refused. A CR before the LF is not one of them.
+const MOST: u16 = 1024;
+
+// What a turn gives back: how far the input was taken, what is kept of its lines, and what came.
+pub struct Turned {
+    pub input: Input,
+    pub kept: Kept,
+    pub next: Next,
+}
+
+// The next line that ends in the block, answered.
+pub fn turn(input: Input, kept: Kept, block: &[u8], line: &mut [u8], out: &mut [u8]) -> Turned
+    ensures { λ r. ⌜ turnIn r (now (line .exit)) (now (out .exit))
+        ≡ turnOf input kept (now (block .entry)) (now (line .entry)) (now (out .entry)) ⌝ }
+{
+    let t = stream::next_line(input, MOST, true, block, line);
+    let rest = t.input;
+    let next = t.next;
+    Turned {
+        input: rest,
+        kept: answer_next(kept, next, line, out),
+        next: next,
+    }
+}
+
+// At the end of the input: bytes that are held are a last line, answered.
+pub fn last_turn(input: Input, kept: Kept, line: &[u8], out: &mut [u8]) -> Turned
+    ensures { λ r. ⌜ lastIn r (now (out .exit)) ≡ lastOf input kept (now (line .entry)) (now (out .entry)) ⌝ }
+{
+    let t = stream::last_line(input, MOST, true, line);
+    let rest = t.input;
+    let next = t.next;
+    Turned {
+        input: rest,
+        kept: answer_next(kept, next, line, out),
+        next: next,
+    }
+}
+
+// What came is answered.
+fn answer_next(s: Kept, next: Next, line: &[u8], out: &mut [u8]) -> Kept
+    ensures { λ r. ⌜ answeredIn r (now (out .exit)) ≡ answeredOf s next (now (line .entry)) (now (out .entry)) ⌝ }
+{
+    match next {
+        Next::Line(n) => json::answer_line(s, n, line, out),
+        Next::TooLong => json::answer_long(s, out),
+        Next::Nothing => s,
+        Next::Room => s,
+    }
+}
+
+// What the words of the command line ask: the usage, that the launcher is told the status, no refusals, counts at the end; whether they name an input,
+// and the place of the first that is no option of ours, or 0.
+pub struct Asked {
+    pub help: bool,
+    pub status: bool,
+    pub quiet: bool,
+    pub summary: bool,
+    pub inputs: bool,
+    pub unknown: usize,
+}
+
+// No words: nothing is asked.
+pub fn nothing_asked() -> Asked
+    ensures { λ r. ⌜ r ≡ askedNothing ⌝ }
+{
+    Asked {
+        help: false,
+        status: false,
+        quiet: false,
+        summary: false,
+        inputs: false,
+        unknown: 0,
+    }
+}
+
+// One word more, the one at place i.
+pub fn asked_by(asked: Asked, word: &[u8], i: usize) -> Asked
+    ensures { λ r. ⌜ r ≡ askedBy asked (now (word .entry)) i ⌝ }
+{
+    let mut a = asked;
+    match arguments::word_of(word) {
+        Word::Help => a.help = true,
+        Word::Status => a.status = true,
+        Word::Input => a.inputs = true,
+        Word::Option => return asked_by_option(a, word, i),
+    }
+    a
+}
+
+// An option of ours, or one that is unknown.
+fn asked_by_option(asked: Asked, word: &[u8], i: usize) -> Asked
+    ensures { λ r. ⌜ r ≡ optionBy asked (now (word .entry)) i ⌝ }
+{
+    let mut a = asked;
+    if text_in::same(word, b"--quiet") {
+        a.quiet = true;
+        return a;
+    }
+    if text_in::same(word, b"--summary") {
+        a.summary = true;
+        return a;
+    }
+    if a.unknown == 0 {
+        a.unknown = i;
+    }
+    a
+}
