@@ -6,7 +6,7 @@ use mathlib.Core.Bool.{Bool, true, false, not, _||_}
 use mathlib.Core.List.{List, [], _∷_, _++_}
 use lib.Dec.{eqb}
 use lib.ListN.{replicate}
-use Rattle.refusal.specs.Words.{pick, within, Told, taken, Check, onTaken}
+use Rattle.refusal.specs.Words.{pick, within, isEmpty, Told, taken, Check, onTaken}
 use Rattle.refusal.specs.Order.{Passed}
 use Rattle.refusal.proofs.Order.{passed, taken-same}
 use Rattle.armour.specs.Armour.{unarmored}
@@ -20,7 +20,7 @@ use Rattle.interrogation.specs.Interrogation.{interrogatedOf}
 use Rattle.interrogation.specs.declared.Ending.{Ending}
 use Rattle.interrogation.specs.declared.Interrogation.{Interrogation}
 use Rattle.messages.specs.Messages.{typeOf, otherType, unknownType, noMessage, positionIn, staticIn, askedIn, messageBy, endsPosition, endsStatic, endsAsked}
-use Rattle.messages.specs.Messages.{endsInside, isEmpty}
+use Rattle.messages.specs.Messages.{endsInside}
 use Rattle.messages.specs.declared.AisMessage.{AisMessage}
 use Rattle.messages.specs.declared.Message.{Message}
 use Rattle.sentence.specs.Line.{payloadOf, parsedOf}

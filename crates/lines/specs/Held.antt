@@ -27,7 +27,7 @@ keptOf m h buf = record { len = countOf m h; line = keep m h buf }
 unfoldable pub heldOf : ℕ → ℕ → List ℕ → List ℕ
 heldOf m n buf = take n (take m buf ++ 13 ∷ 0 ∷ [])
 
--- what the code's helpers ask of a number and a buffer
+-- what the inner functions of the code ask of a number and a buffer
 pub record Within (m n : ℕ) (buf : List ℕ) : Type 0 where
   pub small : m < 65536
   pub room : m ≤ length buf

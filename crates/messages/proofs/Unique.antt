@@ -7,7 +7,7 @@ use Prim.Native.Nat.{ℕ}
 use native.Mathlib.Omega.{arith}
 use borrow.Author.Tests.{eqb-true, ne-eqb}
 use lib.Dec.{eqb}
-use Rattle.refusal.specs.Words.{pick, within, Told, taken, refused, check, checked}
+use Rattle.refusal.specs.Words.{pick, within, isEmpty, Told, taken, refused, check, checked}
 use Rattle.refusal.specs.Order.{First}
 use Rattle.refusal.proofs.Order.{exactly}
 use Rattle.refusal.proofs.Unique.{untold, untold-told}
@@ -15,7 +15,7 @@ use Rattle.refusal.proofs.Within.{range-in, below-range}
 use Rattle.static_data_report.specs.StaticData.{staticDataOf}
 use Rattle.interrogation.specs.Interrogation.{interrogatedOf}
 use Rattle.messages.specs.Messages.{Decoding, parseIn, decodedIn, typeOf, otherType, unknownType, endsPosition, endsStatic, endsAsked}
-use Rattle.messages.specs.Messages.{endsInside, isEmpty, decodeChecks, orderedChecks, decodedOf}
+use Rattle.messages.specs.Messages.{endsInside, decodeChecks, orderedChecks, decodedOf}
 use Rattle.messages.specs.declared.ParseOutcome.{ParseOutcome}
 use Rattle.messages.specs.declared.ParseOutcome.the-variants as outcome
 use Rattle.messages.specs.declared.Decoded.{Decoded}

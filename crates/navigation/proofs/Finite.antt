@@ -13,7 +13,7 @@ use lib.Ieee.Exact.{HasValue}
 use lib.Ieee.Scale.{finite}
 use Rattle.navigation.specs.declared.Reading.{Reading}
 use Rattle.navigation.specs.Navigation.{single, unless, eqZ, finiteIn, tenthsOf, noSpeed, speedOf}
-use Rattle.navigation.specs.Navigation.{noCourse, courseOf, degreesOf, placedOf, rootOf, noRate, rateOf}
+use Rattle.navigation.specs.Navigation.{noCourse, courseOf, degreesOf, coordinateOf, rootOf, noRate, rateOf}
 use Rattle.navigation.proofs.Values.{exact, finite-no-nan}
 use Rattle.navigation.proofs.Bounded.{U, Bounded, bounded-finite, rounded, quotient, product}
 
@@ -82,7 +82,7 @@ speed-finite raw h = holds (noSpeed raw) (tenthsOf raw) (tenths-finite raw h)
 pub course-finite : (raw : ℕ) → raw < 2 ^ 16 → T (finiteIn (courseOf raw))
 course-finite raw h = holds (noCourse raw) (tenthsOf raw) (tenths-finite raw h)
 
-pub position-finite : (absent raw : ℤ) → mag raw < 2 ^ 31 → T (finiteIn (placedOf absent raw))
+pub position-finite : (absent raw : ℤ) → mag raw < 2 ^ 31 → T (finiteIn (coordinateOf absent raw))
 position-finite absent raw h = holds (eqZ raw absent) (degreesOf raw) (degrees-finite raw h)
 
 pub rate-finite : (raw : ℤ) → mag raw < 2 ^ 7 → T (finiteIn (rateOf raw))

@@ -3,12 +3,17 @@ use mathlib.Core.Path.{_≡_, refl, sym, _∙_}
 use mathlib.Core.Bool.{Bool, true, false}
 use Prim.Native.Nat.{ℕ}
 use lib.Dec.{eqb}
-use lib.IntN.{pos}
+use lib.IntN.{ℤ, pos}
 use lib.Ieee.{fin, binary32, round, ofInt}
 use borrow.Author.Tests.{eqb-true}
 use Rattle.refusal.specs.Words.{pick}
 use Rattle.navigation.specs.declared.ManeuverIndicator.{ManeuverIndicator}
-use Rattle.navigation.specs.Navigation.{manoeuvreOf, manoeuvreNumber}
+use Rattle.navigation.specs.declared.Reading.{Reading}
+use Rattle.navigation.specs.Navigation.{Coordinate, manoeuvreOf, manoeuvreNumber}
+
+-- the promise of a longitude or a latitude has one outcome
+pub coordinate-unique : (absent raw : ℤ) (r s : Reading) → Coordinate absent raw r → Coordinate absent raw s → r ≡ s
+coordinate-unique absent raw r s p q = p .is ∙ sym (q .is)
 
 -- a manoeuvre indicator keeps its number
 pub manoeuvre-number : (raw : ℕ) → manoeuvreNumber (manoeuvreOf raw) ≡ raw

@@ -10,7 +10,7 @@ use borrow.Author.Tests.{eqb-true, eq-eqb, ltb-true, ltb-false}
 use mir.Syntax.{Width, w32}
 use mir.Val.{SFits, ofZ, toZ}
 use mir.Facts.{toZ-ofZ}
-use Rattle.navigation.specs.Navigation.{eqZ, degreesOf, Placed, sideOf}
+use Rattle.navigation.specs.Navigation.{eqZ, degreesOf, Coordinate, sideOf}
 use Rattle.navigation.specs.declared.Reading.{Reading}
 use Rattle.navigation.specs.declared.Direction.{Direction}
 
@@ -35,10 +35,10 @@ differ w a b n = go (eqZ a b) refl
     go false h = refl
 
 -- ---- a position, by the test that the code makes on the bits
-pub no-position : (absent raw : ℤ) → SFits w32 absent → SFits w32 raw → ofZ w32 raw ≡ ofZ w32 absent → Placed absent raw Reading.Absent
+pub no-position : (absent raw : ℤ) → SFits w32 absent → SFits w32 raw → ofZ w32 raw ≡ ofZ w32 absent → Coordinate absent raw Reading.Absent
 no-position absent raw fa fr e = record { is = simp (equal w32 raw absent fr fa e) }
 
-pub a-position : (absent raw : ℤ) (x : Float) → (ofZ w32 raw ≡ ofZ w32 absent → ⊥) → x ≡ degreesOf raw → Placed absent raw (Reading.Value x)
+pub a-position : (absent raw : ℤ) (x : Float) → (ofZ w32 raw ≡ ofZ w32 absent → ⊥) → x ≡ degreesOf raw → Coordinate absent raw (Reading.Value x)
 a-position absent raw x n e = record { is = simp (differ w32 raw absent n, e) }
 
 -- ---- the direction, by the tests that the code makes

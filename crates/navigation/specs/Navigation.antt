@@ -59,8 +59,8 @@ abbrev pub degreesOf : ℤ → Float
 degreesOf raw = div binary32 (ofInt binary32 raw) (single 600000 1)
 
 -- the position of a raw number, where `absent` is the number that stands for none
-abbrev pub placedOf : ℤ → ℤ → Reading
-placedOf absent raw = unless (eqZ raw absent) (degreesOf raw)
+abbrev pub coordinateOf : ℤ → ℤ → Reading
+coordinateOf absent raw = unless (eqZ raw absent) (degreesOf raw)
 
 -- "Absent: .. longitude 108600000, latitude 54600000"
 abbrev pub longitudeAbsent : ℤ
@@ -71,14 +71,14 @@ latitudeAbsent = pos 54600000
 
 -- the two positions, in degrees
 abbrev pub longitudeOf : ℤ → Reading
-longitudeOf raw = placedOf longitudeAbsent raw
+longitudeOf raw = coordinateOf longitudeAbsent raw
 
 abbrev pub latitudeOf : ℤ → Reading
-latitudeOf raw = placedOf latitudeAbsent raw
+latitudeOf raw = coordinateOf latitudeAbsent raw
 
 -- what is promised of a position that is handed out, gathered in one record
-pub record Placed (absent raw : ℤ) (r : Reading) : Type 0 where
-  pub is : r ≡ placedOf absent raw
+pub record Coordinate (absent raw : ℤ) (r : Reading) : Type 0 where
+  pub is : r ≡ coordinateOf absent raw
 
 -- ---- "Absent: .. heading 511"
 abbrev pub headingOf : ℕ → Heading

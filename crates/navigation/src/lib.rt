@@ -1,7 +1,7 @@
 // Speed, course, position, turn, heading, accuracy and manoeuvre of a report (messages/navigation.rs).
 // Every function answers for every number that its type holds. A value is absent at document 01's number alone, and is else as sent.
 ghost use mathlib.Core.Path.{_≡_};
-ghost use Rattle.navigation.specs.Navigation.{tenthsOf, speedOf, courseOf, degreesOf, longitudeAbsent, latitudeAbsent, Placed, headingOf};
+ghost use Rattle.navigation.specs.Navigation.{tenthsOf, speedOf, courseOf, degreesOf, longitudeAbsent, latitudeAbsent, Coordinate, headingOf};
 ghost use Rattle.navigation.specs.Navigation.{turnOf, rateOf, directionOf, accuracyOf, accuracyNumber, manoeuvreOf, manoeuvreNumber};
 
 // A reading of speed, course, longitude, latitude or rate of turn: absent, or the value. One enum serves them all, so that what is said
@@ -40,7 +40,7 @@ fn degrees(raw: i32) -> f32
 
 // The longitude in degrees, east above 0.
 pub fn parse_longitude(raw: i32) -> Reading
-    ensures { λ r. ⌜ Placed longitudeAbsent raw r ⌝ }
+    ensures { λ r. ⌜ Coordinate longitudeAbsent raw r ⌝ }
 {
     match raw {
         108_600_000 => Reading::Absent,
@@ -50,7 +50,7 @@ pub fn parse_longitude(raw: i32) -> Reading
 
 // The latitude in degrees, north above 0.
 pub fn parse_latitude(raw: i32) -> Reading
-    ensures { λ r. ⌜ Placed latitudeAbsent raw r ⌝ }
+    ensures { λ r. ⌜ Coordinate latitudeAbsent raw r ⌝ }
 {
     match raw {
         54_600_000 => Reading::Absent,

@@ -33,10 +33,10 @@ pub fn call(
     ensures { λ r. ⌜ calledIn r (now (payload .exit)) (now (bits .exit))
         ≡ calledOf state (now (line .entry)) decode (now (payload .entry)) (now (bits .entry)) ⌝ }
 {
-    let mut held = state;
-    let answer = read(&mut held, line, decode, payload, bits);
+    let mut lent = state;
+    let answer = read(&mut lent, line, decode, payload, bits);
     Stepped {
-        state: held,
+        state: lent,
         answer: answer,
     }
 }

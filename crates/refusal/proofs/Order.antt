@@ -9,7 +9,7 @@ use Rattle.refusal.specs.Words.{Told, taken, refused, numberIn, Check, c
 use Rattle.refusal.specs.Order.{Passed, First}
 
 -- a result is no refusal
-clash : {A : Type 0} (a : A) (n : ℕ) (values : List ℕ) → taken a ≡ refused n values → ⊥
+pub clash : {A : Type 0} (a : A) (n : ℕ) (values : List ℕ) → taken a ≡ refused n values → ⊥
 clash a n values e = let z : _≡_ {A = ℕ} 0 1 = cc in omega arith
 
 -- where all checks pass, what is then to be told is told

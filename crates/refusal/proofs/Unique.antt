@@ -6,7 +6,7 @@ use lib.Dec.{eqb}
 use lib.ListN.{length, getD}
 use Rattle.refusal.specs.Words.{pick, Told, taken, refused}
 use Rattle.refusal.specs.Refusal.{rowOf, told}
-use Rattle.refusal.specs.Values.{Held}
+use Rattle.refusal.specs.Values.{Returned}
 use Rattle.refusal.specs.declared.Refusal.{Refusal}
 use Rattle.refusal.specs.declared.Values.{Values}
 use Rattle.refusal.specs.declared.Refusal.the-variants.{LineTooLong, Line, Checksum, MessageNumber, FragmentNumber, PayloadTooLong, Fill}
@@ -56,14 +56,14 @@ untold-told result refusal r = ap refusal (read-back r)
 pub same-refusal : (A : Type 0) (a b : Refusal) → told {A = A} a ≡ told b → a ≡ b
 same-refusal A a b e = sym (read-back a) ∙ ap (untold (λ (x : A). Request) (λ (r : Refusal). r)) e ∙ read-back b
 
--- the values of a refusal as the code holds them: one outcome, with 0 where there is no first or no second
-abbrev heldBy : List ℕ → Values
-heldBy values = record { count = length values; first = getD values 0 0; second = getD values 1 0 }
+-- the values of a refusal as the code gives them: one outcome, with 0 where there is no first or no second
+abbrev returnedBy : List ℕ → Values
+returnedBy values = record { count = length values; first = getD values 0 0; second = getD values 1 0 }
 
-held-by : (values : List ℕ) (v : Values) → Held values v → v ≡ heldBy values
-held-by values v h =
-    let e : _≡_ {A = Values} (record { count = v .count; first = v .first; second = v .second }) (heldBy values) = rw (h .count, h .first, h .second) in
+returned-by : (values : List ℕ) (v : Values) → Returned values v → v ≡ returnedBy values
+returned-by values v h =
+    let e : _≡_ {A = Values} (record { count = v .count; first = v .first; second = v .second }) (returnedBy values) = rw (h .count, h .first, h .second) in
     e
 
-pub held-unique : (values : List ℕ) (v w : Values) → Held values v → Held values w → v ≡ w
-held-unique values v w p q = held-by values v p ∙ sym (held-by values w q)
+pub returned-unique : (values : List ℕ) (v w : Values) → Returned values v → Returned values w → v ≡ w
+returned-unique values v w p q = returned-by values v p ∙ sym (returned-by values w q)

@@ -2,7 +2,7 @@
 use mathlib.Core.Bool.{Bool, true, false, _&&_}
 use mathlib.Core.List.{List, [], _∷_, _++_}
 use Prim.Native.Nat.{ℕ}
-use lib.Dec.{leb}
+use lib.Dec.{leb, eqb}
 use lib.ListN.{length, drop}
 
 -- x where b is true, else y
@@ -13,6 +13,10 @@ pick false x y = y
 -- b lies between lo and hi, both counted
 unfoldable pub within : ℕ → ℕ → ℕ → Bool
 within lo hi b = leb lo b && leb b hi
+
+-- there is nothing in it
+abbrev pub isEmpty : List ℕ → Bool
+isEmpty s = eqb (length s) 0
 
 -- what is answered on paper: a result, or a refusal by document 01's number with the values also returned
 pub data Told (A : Type 0) : Type 0 where

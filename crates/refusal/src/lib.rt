@@ -2,7 +2,7 @@
 ghost use mathlib.Core.Path.{_≡_};
 ghost use mathlib.Core.List.{[], _∷_};
 ghost use Rattle.refusal.specs.Refusal.{rowOf};
-ghost use Rattle.refusal.specs.Values.{Held};
+ghost use Rattle.refusal.specs.Values.{Returned};
 
 // In document 01's order, from 1 to 13, with what is also returned.
 pub enum Refusal {
@@ -54,7 +54,7 @@ pub struct Values {
 
 // The values of a refusal, for programs that print them.
 pub fn values_of(refusal: Refusal) -> Values
-    ensures { λ r. ⌜ Held (rowOf refusal .values) r ⌝ }
+    ensures { λ r. ⌜ Returned (rowOf refusal .values) r ⌝ }
 {
     match refusal {
         Refusal::LineTooLong => none(),
@@ -79,7 +79,7 @@ pub fn values_of(refusal: Refusal) -> Values
 
 // No value.
 fn none() -> Values
-    ensures { λ r. ⌜ Held [] r ⌝ }
+    ensures { λ r. ⌜ Returned [] r ⌝ }
 {
     Values {
         count: 0,
@@ -90,7 +90,7 @@ fn none() -> Values
 
 // A single value.
 fn one(v: u64) -> Values
-    ensures { λ r. ⌜ Held (v ∷ []) r ⌝ }
+    ensures { λ r. ⌜ Returned (v ∷ []) r ⌝ }
 {
     Values {
         count: 1,

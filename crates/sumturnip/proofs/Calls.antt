@@ -16,7 +16,6 @@ use Rattle.armour.specs.Unarmor.{unarmoredIn, answerOf, Unarmors}
 use Rattle.armour.specs.declared.Unarmored.{Unarmored}
 use Rattle.sentence.specs.Line.{payloadOf}
 use Rattle.sentence.specs.declared.AisSentence.{AisSentence}
-use Rattle.sentence.specs.declared.Parsed.{Parsed}
 use Rattle.reassembly.specs.Record.{freshRecord, emptiedOf, joinedBytes, added, partIn, joinIn, joinOf}
 use Rattle.reassembly.specs.declared.Record.{Record}
 use Rattle.reassembly.specs.declared.JoinOutcome.{JoinOutcome}
@@ -259,7 +258,7 @@ module _ (state : List ℕ) (w : 400 ≤ length state) where
           leaves-kept _ a state′ payload bits p (ap (λ (x : Answer). calledIn (stepped (recordIn state) x) payload bits) q
           ∙ line-refused (recordIn state) line decode payload bits _ _ e)
 
-      leaves-sentence : (s : AisSentence) → checkOf line (length payload) (length bits) ≡ taken (Parsed.Sentence s)
+      leaves-sentence : (s : AisSentence) → checkOf line (length payload) (length bits) ≡ taken s
           → (a : Answer) (state′ payload′ bits′ : List ℕ)
           → Leaves (handingOf (recordIn state) s (payloadOf line s) decode payload bits) state a state′ payload′ bits′
           → Leaves (calledOf (recordIn state) line decode payload bits) state a state′ payload′ bits′
@@ -276,7 +275,7 @@ module _ (state : List ℕ) (w : 400 ≤ length state) where
           → Reads (calledOf (recordIn state) line decode payload bits) state numbers texts code state′ payload bits numbers′ texts′
       reads-early refusal e p t = record { answer = refuses refusal; leaves = leaves-refused refusal (refuses refusal) _ e refl p; told = t; texted = refl }
 
-      pub reads-sentence : (s : AisSentence) → checkOf line (length payload) (length bits) ≡ taken (Parsed.Sentence s)
+      pub reads-sentence : (s : AisSentence) → checkOf line (length payload) (length bits) ≡ taken s
           → {numbers texts : List ℕ} {code : ℕ} {state′ payload′ bits′ numbers′ texts′ : List ℕ}
           → Reads (handingOf (recordIn state) s (payloadOf line s) decode payload bits) state numbers texts code state′ payload′ bits′ numbers′ texts′
           → Reads (calledOf (recordIn state) line decode payload bits) state numbers texts code state′ payload′ bits′ numbers′ texts′

@@ -7,13 +7,13 @@ use native.Mathlib.Omega.{arith}
 use borrow.Author.Tests.{ltb-false, leb-true, eqb-false, not-false}
 use lib.Dec.{ltb, leb, eqb}
 use lib.ListN.{length, take, drop, length-take, length-drop}
-use Rattle.refusal.specs.Words.{pick, within}
+use Rattle.refusal.specs.Words.{pick, within, isEmpty}
 use Rattle.scan.specs.Scan.{All}
 use Rattle.sentence.specs.Written.{talkerText, reportText, AOrB, OneDigit, Writable}
 use Rattle.sentence.specs.declared.Channel.{Channel}
 use Rattle.sentence.specs.declared.Number.{Number}
 use Rattle.writer.specs.Message.{Message, Sendable, linesIn, partsOf}
-use Rattle.writer.specs.Writer.{badCount, unknown, otherChannel, outside, messageOf}
+use Rattle.writer.specs.Writer.{badCount, otherChannel, outside, messageOf}
 use Rattle.writer.specs.declared.Request.{Request}
 use Rattle.writer.proofs.Armoured.{length-armoured, armoured-range}
 
@@ -33,8 +33,8 @@ channel-in (Channel.Of b) e = range-in 65 66 b (not-false (within 65 66 b) e)
 module _ (q : Request) (d : List ℕ) (inside : outside q d ≡ false) where
   pub record Limits : Type 0 where
     pub count : badCount (q .count) d ≡ false
-    pub talker : unknown (talkerText (q .«talker_id»)) ≡ false
-    pub report : unknown (reportText (q .«report_type»)) ≡ false
+    pub talker : isEmpty (talkerText (q .«talker_id»)) ≡ false
+    pub report : isEmpty (reportText (q .«report_type»)) ≡ false
     pub channel : otherChannel (q .channel) ≡ false
     pub number : ltb 9 (q .«message_id») ≡ false
 
@@ -42,8 +42,8 @@ module _ (q : Request) (d : List ℕ) (inside : outside q d ≡ false) where
   unfolding outside
   limits =
       let a = neither (badCount (q .count) d) _ inside in
-      let b = neither (unknown (talkerText (q .«talker_id»))) _ (a .1) in
-      let c = neither (unknown (reportText (q .«report_type»))) _ (b .1) in
+      let b = neither (isEmpty (talkerText (q .«talker_id»))) _ (a .1) in
+      let c = neither (isEmpty (reportText (q .«report_type»))) _ (b .1) in
       let e = neither (otherChannel (q .channel)) _ (c .1) in
       record { count = a .0; talker = b .0; report = c .0; channel = e .0; number = e .1 }
 

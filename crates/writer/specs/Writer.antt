@@ -3,9 +3,9 @@ use Prim.Native.Nat.{ℕ, _*_}
 use mathlib.Core.Path.{_≡_}
 use mathlib.Core.Bool.{Bool, false, not, _||_}
 use mathlib.Core.List.{List, [], _∷_}
-use lib.Dec.{ltb, eqb}
+use lib.Dec.{ltb}
 use lib.ListN.{length}
-use Rattle.refusal.specs.Words.{within, Told, taken, Check, check, checked, left}
+use Rattle.refusal.specs.Words.{within, isEmpty, Told, taken, Check, check, checked, left}
 use Rattle.refusal.specs.Refusal.{told}
 use Rattle.sentence.specs.Written.{talkerText, reportText}
 use Rattle.sentence.specs.declared.Channel.{Channel}
@@ -23,20 +23,16 @@ writtenIn (Refused r) = told r
 abbrev pub badCount : ℕ → List ℕ → Bool
 badCount n d = not (within 1 2304 n) || ltb (length d * 8) n
 
--- "a known talker; VDM or VDO": those that have letters
-abbrev pub unknown : List ℕ → Bool
-unknown letters = eqb (length letters) 0
-
 -- "channel A, B or none": A and B are 65 and 66
 abbrev pub otherChannel : Channel → Bool
 otherChannel Channel.Absent = false
 otherChannel (Channel.Of b) = not (within 65 66 b)
 
--- "message number 0 to 9. Anything else is refusal 13."
+-- "a known talker; VDM or VDO": those that have letters; "message number 0 to 9. Anything else is refusal 13."
 unfoldable pub outside : Request → List ℕ → Bool
 outside q d =
     badCount (q .count) d
-    || (unknown (talkerText (q .«talker_id»)) || (unknown (reportText (q .«report_type»)) || (otherChannel (q .channel) || ltb 9 (q .«message_id»))))
+    || (isEmpty (talkerText (q .«talker_id»)) || (isEmpty (reportText (q .«report_type»)) || (otherChannel (q .channel) || ltb 9 (q .«message_id»))))
 
 -- the message that is asked for: the bits as characters; what the bytes hold beyond them is not sent
 abbrev pub messageOf : Request → List ℕ → Message

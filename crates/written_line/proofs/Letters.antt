@@ -7,15 +7,15 @@ use native.Mathlib.Omega.{arith}
 use borrow.Author.Tests.{ne-eqb}
 use lib.Dec.{eqb}
 use lib.ListN.{length, getD}
-use Rattle.refusal.specs.Words.{pick, over}
+use Rattle.refusal.specs.Words.{pick, isEmpty, over}
 use Rattle.sentence.specs.Written.{talkerText, reportText}
 use Rattle.sentence.specs.declared.TalkerId.{TalkerId}
 use Rattle.sentence.specs.declared.AisReportType.{AisReportType}
 
-pub none-told : (letters r : List ℕ) → letters ≡ pick (eqb (getD r 0 0) 0) [] r → 0 < length r → eqb (getD r 0 0) 0 ≡ eqb (length letters) 0
+pub none-told : (letters r : List ℕ) → letters ≡ pick (eqb (getD r 0 0) 0) [] r → 0 < length r → eqb (getD r 0 0) 0 ≡ isEmpty letters
 none-told letters r e some = rw e (go (eqb (getD r 0 0) 0))
   where
-    go : (b : Bool) → b ≡ eqb (length (pick b [] r)) 0
+    go : (b : Bool) → b ≡ isEmpty (pick b [] r)
     go true = refl
     go false = sym (ne-eqb (length r) 0 (omega arith))
 

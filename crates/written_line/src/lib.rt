@@ -7,14 +7,14 @@ ghost use mathlib.Core.List.{[], _∷_, _++_};
 ghost use Prim.Native.Nat.{_<_};
 ghost use lib.Dec.{eqb};
 ghost use lib.ListN.{length, getD};
-ghost use Rattle.refusal.specs.Words.{pick, over};
+ghost use Rattle.refusal.specs.Words.{pick, isEmpty, over};
 ghost use Rattle.scan.specs.Scan.{comma, capital};
 ghost use Rattle.sentence.specs.Written.{talkerText, reportText, channelText, ending};
 ghost use Rattle.text_out.specs.Text.{text, put};
 
 // Whether a talker has no letters.
 pub fn unknown_talker(talker: TalkerId) -> bool
-    ensures { λ r. ⌜ r ≡ eqb (length (talkerText talker)) 0 ⌝ }
+    ensures { λ r. ⌜ r ≡ isEmpty (talkerText talker) ⌝ }
 {
     let s = talker_letters(talker);
     s[0] == 0
@@ -22,7 +22,7 @@ pub fn unknown_talker(talker: TalkerId) -> bool
 
 // Whether a report type has no letters.
 pub fn unknown_report(report: AisReportType) -> bool
-    ensures { λ r. ⌜ r ≡ eqb (length (reportText report)) 0 ⌝ }
+    ensures { λ r. ⌜ r ≡ isEmpty (reportText report) ⌝ }
 {
     let s = report_letters(report);
     s[0] == 0

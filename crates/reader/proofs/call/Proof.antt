@@ -1,4 +1,4 @@
--- `reader::call` meets its contract: a walk of its MIR, by hand. The record, which came by value, is in a local, `held`, that is lent to `read` by `&mut`:
+-- `reader::call` meets its contract: a walk of its MIR, by hand. The record, which came by value, is in a local, `lent`, that is lent to `read` by `&mut`:
 -- a lifetime is made for the call, the local is lent for it, the call, the lifetime is ended, and the local is back, at the record that `read` says.
 -- All that the proof knows of `read` is that it meets its contract. The two buffers are passed on for good (`gave-slice`), and of the other parameters
 -- nothing is kept to the exit (`stay-dropped`).

@@ -17,7 +17,7 @@ use Rattle.writer.proofs.write.Statement.{statement}
 use Rattle.writer.proofs.write.Tie as tie
 
 -- past the first test
-inside : (c : tie.Else1) → outside (c .before .before .before .before .args .request) (c .before .before .before .before .args .bits .now) ≡ false
+inside : (c : tie.Else1) → (let a = c .before .before .before .before .args in outside (a .request) (a .bits .now) ≡ false)
 inside c = sym (c .before .is-outside .ensures) ∙ c .if1 .left
 
 -- the length that is computed is that of the text
@@ -25,9 +25,8 @@ module _ (c : tie.After-beside) where
   small : c .before .before .lines-in .result * c .beside .result ≤ 154
   small = lines-small _ _ (inside (c .before .before .before)) _ _ (c .before .before .lines-in .ensures) (c .beside .ensures)
 
-  need-is : c .before .before .lines-in .result * c .beside .result + (c .before .before .before .before .before .before .before .args .request .count + 5) / 6
-      ≡ length (textAll (messageOf (c .before .before .before .before .before .before .before .args .request)
-      (c .before .before .before .before .before .before .before .args .bits .now)))
+  need-is : (let a = c .before .before .before .before .before .before .before .args in
+      c .before .before .lines-in .result * c .beside .result + (a .request .count + 5) / 6 ≡ length (textAll (messageOf (a .request) (a .bits .now))))
   need-is = length-found _ _ (inside (c .before .before .before)) _ _ (c .before .before .lines-in .ensures) (c .beside .ensures)
 
 is-outside-requires : tie.Need-is-outside-requires
