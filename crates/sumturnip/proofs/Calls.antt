@@ -7,13 +7,11 @@ use native.Mathlib.Omega.{arith}
 use borrow.Author.Tests.{lt-ltb, le-ltb}
 use lib.ListN.{length, take, drop, length-append, length-drop, set}
 use lib.Seq.{length-take-le, take-take, set-split}
-use Rattle.refusal.specs.Words.{Told, taken, numberIn, over}
+use Rattle.refusal.specs.Words.{Told, taken, numberIn, over, left}
 use Rattle.refusal.specs.Refusal.{told}
 use Rattle.refusal.specs.declared.Refusal.{Refusal}
 use Rattle.text_out.specs.Text.{Text, text, put}
 use Rattle.text_out.proofs.Laws.{put-fits}
-use Rattle.armour.specs.Unarmor.{unarmoredIn, answerOf, Unarmors}
-use Rattle.armour.specs.declared.Unarmored.{Unarmored}
 use Rattle.sentence.specs.Line.{payloadOf}
 use Rattle.sentence.specs.declared.AisSentence.{AisSentence}
 use Rattle.sentence.specs.declared.Parsed.{Parsed}
@@ -41,7 +39,7 @@ use Rattle.layout_message.specs.Message.{messageTexts}
 use Rattle.layout_answer.specs.Answer.{answerNumbers, Tells, toldIn, toldOf}
 use Rattle.layout_answer.proofs.Counts.{answer-length}
 use Rattle.layout_told.specs.Told.{Hears}
-use Rattle.sumturnip.specs.Calls.{Leaves, Reads, Ends, freshenedIn, freshenedOf, readIn, flattened, readOf, unarmsIn, unarmsOf}
+use Rattle.sumturnip.specs.Calls.{Leaves, Reads, Ends, freshenedIn, freshenedOf, readIn, flattened, readOf, fillsIn, fillsBy}
 
 pub fresh-short : (state : List ℕ) → length state < 400 → freshenedIn 12 state ≡ freshenedOf state
 fresh-short state h = rw (lt-ltb (length state) 400 h)
@@ -282,15 +280,14 @@ module _ (state : List ℕ) (w : 400 ≤ length state) where
           → Reads (calledOf (recordIn state) line decode payload bits) state numbers texts code state′ payload′ bits′ numbers′ texts′
       reads-sentence s e q = record { answer = q .answer; leaves = leaves-sentence s e (q .answer) _ _ _ (q .leaves); told = q .told; texted = q .texted }
 
-module _ (payload : List ℕ) (fill : ℕ) (out numbers : List ℕ) where
-  pub count-short : length numbers < 1 → unarmsIn 12 out numbers ≡ unarmsOf payload fill out numbers
-  unfolding unarmsOf
+module _ (t : Told ℕ) (s out numbers : List ℕ) where
+  pub count-short : length numbers < 1 → fillsIn 12 out numbers ≡ fillsBy t s out numbers
+  unfolding fillsBy
   count-short h = rw (lt-ltb (length numbers) 1 h)
 
-  pub unarms-flattened : 1 ≤ length numbers → (r : Unarmored) {out′ : List ℕ} → Unarmors payload fill out r out′
-      → {code : ℕ} → code ≡ numberIn (unarmoredIn r)
-      → {count : ℕ} → count ≡ countOf (unarmoredIn r)
-      → unarmsIn code out′ (set numbers 0 count) ≡ unarmsOf payload fill out numbers
-  unfolding unarmsOf
-  unarms-flattened h r u c n =
-      rw (le-ltb (length numbers) 1 h, c, n, u .answers, u .leaves, set-split numbers 0 (countOf (answerOf payload fill (length out))) h)
+  pub fills-flattened : 1 ≤ length numbers → {u : Told ℕ} → u ≡ t → {out′ : List ℕ} → out′ ≡ left t s out
+      → {code : ℕ} → code ≡ numberIn u
+      → {count : ℕ} → count ≡ countOf u
+      → fillsIn code out′ (set numbers 0 count) ≡ fillsBy t s out numbers
+  unfolding fillsBy
+  fills-flattened h a l c n = rw (le-ltb (length numbers) 1 h, c, n, a, l, set-split numbers 0 (countOf t) h)

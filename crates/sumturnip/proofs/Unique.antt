@@ -2,7 +2,7 @@
 use mathlib.Core.Path.{_≡_, ap}
 use mathlib.Core.List.{List}
 use Prim.Native.Nat.{ℕ}
-use Rattle.sumturnip.specs.Calls.{Freshened, freshenedIn, Read, readIn, Unarms, unarmsIn}
+use Rattle.sumturnip.specs.Calls.{Freshened, freshenedIn, Read, readIn, Fills, fillsIn}
 
 pub same-freshened : (a b : ℕ) (s t : List ℕ) → freshenedIn a s ≡ freshenedIn b t → (a ≡ b) × (s ≡ t)
 same-freshened a b s t e = (ap (λ (f : Freshened). f .code) e, ap (λ (f : Freshened). f .state) e)
@@ -19,5 +19,5 @@ same-read a b s₁ s₂ p₁ p₂ b₁ b₂ n₁ n₂ t₁ t₂ e = (
   ap (λ (r : Read). r .texts) e,
 )
 
-pub same-unarms : (a b : ℕ) (o₁ o₂ n₁ n₂ : List ℕ) → unarmsIn a o₁ n₁ ≡ unarmsIn b o₂ n₂ → (a ≡ b) × (o₁ ≡ o₂) × (n₁ ≡ n₂)
-same-unarms a b o₁ o₂ n₁ n₂ e = (ap (λ (u : Unarms). u .code) e, ap (λ (u : Unarms). u .out) e, ap (λ (u : Unarms). u .numbers) e)
+pub same-fills : (a b : ℕ) (o₁ o₂ n₁ n₂ : List ℕ) → fillsIn a o₁ n₁ ≡ fillsIn b o₂ n₂ → (a ≡ b) × (o₁ ≡ o₂) × (n₁ ≡ n₂)
+same-fills a b o₁ o₂ n₁ n₂ e = (ap (λ (f : Fills). f .code) e, ap (λ (f : Fills). f .out) e, ap (λ (f : Fills). f .numbers) e)

@@ -5,7 +5,7 @@ use mathlib.Core.Bool.{Bool, _||_}
 use mathlib.Core.List.{List, [], _∷_}
 use lib.Dec.{ltb}
 use lib.ListN.{length, take}
-use Rattle.refusal.specs.Words.{pick, numberIn, over, left}
+use Rattle.refusal.specs.Words.{pick, Told, numberIn, over, left}
 use Rattle.armour.specs.Armour.{unarmored}
 use Rattle.armour.specs.Unarmor.{answerOf}
 use Rattle.reassembly.specs.Record.{freshRecord, emptiedOf}
@@ -16,10 +16,18 @@ use Rattle.answer.specs.declared.Answer.{Answer}
 use Rattle.ais.specs.Call.{Called, calledIn, calledOf}
 use Rattle.ais.specs.Parts.{stepped}
 use Rattle.record_bytes.specs.Bytes.{tooFew, recordIn, recordBytes, loadedOf, storedOf}
+use Rattle.writer.specs.Message.{textAll}
+use Rattle.writer.specs.Writer as Writer
+use Rattle.writer.specs.Writer.{messageOf}
+use Rattle.writer.specs.declared.Request.{Request}
 use Rattle.layout_answer.specs.Sentence.{codeOf, countOf}
 use Rattle.layout_message.specs.Message.{messageTexts}
 use Rattle.layout_answer.specs.Answer.{numbersBy, toldIn, toldOf}
 use Rattle.layout_told.specs.Told.{Hears}
+
+-- the version, 0.2.0: two decimal places for each of its three numbers, as bindings/sumturnip.h has it
+abbrev pub version : ℕ
+version = 200
 
 -- what making a record fresh gives back: the answer, and the record's bytes
 pub record Freshened : Type 0 where
@@ -79,17 +87,24 @@ readOf state line decode payload bits numbers texts =
     pick (tooShort state numbers texts) (readIn 12 state payload bits numbers texts)
     (flattened (calledOf (recordIn state) line (decodeOf decode) payload bits) state numbers texts)
 
--- what unarmoring alone gives back: the answer, the output and the answer's one number
-pub record Unarms : Type 0 where
+-- what a call that fills an output gives back: the answer, the output and the answer's one number
+pub record Fills : Type 0 where
   pub code : ℕ
   pub out : List ℕ
   pub numbers : List ℕ
 
-abbrev pub unarmsIn : ℕ → List ℕ → List ℕ → Unarms
-unarmsIn code out numbers = record { code = code; out = out; numbers = numbers }
+abbrev pub fillsIn : ℕ → List ℕ → List ℕ → Fills
+fillsIn code out numbers = record { code = code; out = out; numbers = numbers }
 
--- unarmoring, with its number first in what is lent for it; or 12 where nothing is lent for that
-unfoldable pub unarmsOf : List ℕ → ℕ → List ℕ → List ℕ → Unarms
-unarmsOf payload fill out numbers =
-    let t = answerOf payload fill (length out) in
-    pick (ltb (length numbers) 1) (unarmsIn 12 out numbers) (unarmsIn (numberIn t) (left t (unarmored payload fill) out) (over (countOf t ∷ []) numbers))
+-- an answer on paper that puts s first in the output, with its number first in what is lent for it; or 12 where nothing is lent for that
+unfoldable pub fillsBy : Told ℕ → List ℕ → List ℕ → List ℕ → Fills
+fillsBy t s out numbers =
+    pick (ltb (length numbers) 1) (fillsIn 12 out numbers) (fillsIn (numberIn t) (left t s out) (over (countOf t ∷ []) numbers))
+
+-- unarmoring alone
+abbrev pub unarmsOf : List ℕ → ℕ → List ℕ → List ℕ → Fills
+unarmsOf payload fill out numbers = fillsBy (answerOf payload fill (length out)) (unarmored payload fill) out numbers
+
+-- the writer, asked by a request
+abbrev pub writesOf : Request → List ℕ → List ℕ → List ℕ → Fills
+writesOf q bits out numbers = fillsBy (Writer.answerOf q bits (length out)) (textAll (messageOf q bits)) out numbers

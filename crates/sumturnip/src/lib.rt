@@ -1,4 +1,4 @@
-// The static library: the reader for C and Rust. A line, and a record in lent bytes, come in; numbers and bytes go out. Crates `layout_..` and
+// The static library: the reader and the writer for C and Rust. Numbers and lent bytes come in; numbers and bytes go out. Crates `layout_..` and
 // `record_bytes` flatten what an enum holds.
 use ais::Checked;
 use answer::Decode;
@@ -11,7 +11,16 @@ ghost use lib.ListN.{length};
 ghost use Rattle.ais.specs.Call.{calledOf};
 ghost use Rattle.ais.specs.Parts.{handingOf};
 ghost use Rattle.record_bytes.specs.Bytes.{recordIn, loadedOf};
-ghost use Rattle.sumturnip.specs.Calls.{Ends, Reads, freshenedIn, freshenedOf, readIn, readOf, unarmsIn, unarmsOf};
+ghost use Rattle.sumturnip.specs.Calls.{Ends, Reads, freshenedIn, freshenedOf, readIn, readOf, fillsIn, unarmsOf, writesOf, version};
+ghost use Rattle.layout_request.specs.Request.{requestBy};
+
+// The library's version, which a caller holds against that of the header.
+#[no_mangle]
+pub extern "C" fn sumturnip_version() -> u32
+    ensures { λ r. ⌜ r ≡ version ⌝ }
+{
+    200
+}
 
 // A fresh record: 0, or 12 where the record's bytes are too few.
 #[no_mangle]
@@ -165,7 +174,7 @@ pub extern "C" fn sumturnip_unarmor(
     out: &mut [u8],
     answer: &mut [u64],
 ) -> u32
-    ensures { λ r. ⌜ unarmsIn r (now (out .exit)) (now (answer .exit)) ≡ unarmsOf (now (payload .entry)) fill (now (out .entry)) (now (answer .entry)) ⌝ }
+    ensures { λ r. ⌜ fillsIn r (now (out .exit)) (now (answer .exit)) ≡ unarmsOf (now (payload .entry)) fill (now (out .entry)) (now (answer .entry)) ⌝ }
 {
     if answer.len() < 1 {
         return 12;
@@ -173,4 +182,30 @@ pub extern "C" fn sumturnip_unarmor(
     let r = armour::unarmor(payload, fill, out);
     answer[0] = layout_answer::unarmored_count(r);
     layout_answer::unarmored_code(r)
+}
+
+// The writer: 0 with the count of bytes in the answer's first number, else the refusal's number. Talker, report type and channel (whether there is one, and its
+// byte) have the numbers that `sumturnip_read` tells them by; any other number is refusal 13.
+#[no_mangle]
+pub extern "C" fn sumturnip_write(
+    count: usize,
+    talker: u64,
+    report: u64,
+    there: u64,
+    channel: u64,
+    number: u64,
+    bits: &[u8],
+    out: &mut [u8],
+    answer: &mut [u64],
+) -> u32
+    ensures { λ r. ⌜ fillsIn r (now (out .exit)) (now (answer .exit))
+        ≡ writesOf (requestBy count talker report there channel number) (now (bits .entry)) (now (out .entry)) (now (answer .entry)) ⌝ }
+{
+    if answer.len() < 1 {
+        return 12;
+    }
+    let request = layout_request::request_of(count, talker, report, there, channel, number);
+    let r = writer::write(request, bits, out);
+    answer[0] = layout_request::written_count(r);
+    layout_request::written_code(r)
 }
