@@ -1,6 +1,7 @@
 -- `sumturnip::sumturnip_write` meets its contract. Assumes nothing.
 use mathlib.Core.Path.{ap, _∙_}
 use Rattle.writer.specs.declared.Request.{Request}
+use Rattle.layout_request.specs.Request.{requestBy}
 use Rattle.sumturnip.specs.Calls.{writesOf}
 use Rattle.sumturnip.proofs.Calls.{count-short, fills-flattened}
 use borrow.Author.Needs.{needs}
@@ -38,7 +39,8 @@ returns-2 c =
     let s = at-request .before .before .before .before .before .args in
     let w = at-write .write .ensures in
     fills-flattened _ _ _ _ (at-request .before .if1 .left) (w .answers) (w .leaves) (c .written-code .ensures) (c .before .written-count .ensures)
-    ∙ ap (λ (q : Request). writesOf q (s .bits .now) (s .out .now) (s .answer .now)) (at-request .request-of .ensures)
+    ∙ ap (λ (q : Request). writesOf q (s .bits .now) (s .out .now) (s .answer .now))
+    {y = requestBy (s .count) (s .talker) (s .report) (s .there) (s .channel) (s .number)} (at-request .request-of .ensures)
 
 pub sumturnip-write-spec : {M : Type 1} → statement M
 sumturnip-write-spec =
