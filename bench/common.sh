@@ -1,16 +1,17 @@
-# What the measuring scripts share: the measuring program, built. Sourced by bash with -euo pipefail in force.
-. "$(dirname "${BASH_SOURCE[0]}")/../oracle/common.sh"
+# What the measuring scripts share: the measuring program, built. Sourced by bash with -euo pipefail in force, after tools/usage.sh and with `root` set to
+# the repository.
+. "$root/oracle/common.sh"
 . "$root/bindings/native.sh"
-say() { printf 'bench: %s\n' "$*" >&2; }
-room=$room/bench
-sample=${SAMPLE-$root/../shared/vectors/sample.aivdm}
 
-# Debian's packages that are named and not there; which, is said before it is done.
-install() {
-    say "installing $* from Debian's packages"
-    local become=()
-    [ "$(id -u)" = 0 ] || become=(sudo)
-    "${become[@]}" apt-get update -qq && "${become[@]}" apt-get install -qq -y --no-install-recommends "$@" >&2
+# is_count WORD: a number of rounds or lines, from 1 on.
+is_count() { is_number "$1" && [ "$1" -gt 0 ]; }
+
+# Finds what is measured: the crate, the room and the published lines.
+settle_bench() {
+    settle
+    room=$room/bench
+    sample=${SAMPLE-$root/../shared/vectors/sample.aivdm}
+    [ -f "$sample" ] || { say "no file of published lines at '$sample': SAMPLE has to name one"; exit 2; }
 }
 
 # Builds the measuring program for release, over the crate and the library for this processor.

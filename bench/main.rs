@@ -121,13 +121,28 @@ fn write_lines(streams: &[Stream], count: usize) {
     }
 }
 
+/// What is wrong, in one line, and status 2.
+fn wrong(what: &str) -> ! {
+    eprintln!("bench: {what}");
+    std::process::exit(2)
+}
+
 fn main() {
     let words: Vec<String> = std::env::args().skip(1).collect();
     let words: Vec<&str> = words.iter().map(String::as_str).collect();
-    let number = |word: &str| word.parse::<usize>().expect("a number");
-    let streams = streams::all(words.first().expect("the file of published lines"));
-    let wanted = |word: &str| streams.iter().enumerate().filter(move |(_, stream)| stream.name.contains(word)).collect::<Vec<_>>();
+    let number = |word: &str| word.parse::<usize>().unwrap_or_else(|_| wrong(&format!("no number: {word}")));
+    let Some(sample) = words.first() else { wrong("the file of published lines is not named") };
+    let streams = streams::all(sample);
+    let wanted = |word: &str| {
+        let some: Vec<_> = streams.iter().enumerate().filter(|(_, stream)| stream.name.contains(word)).collect();
+        if some.is_empty() {
+            let names: Vec<&str> = streams.iter().map(|stream| stream.name.as_str()).collect();
+            wrong(&format!("no stream's name has the words '{word}': {}", names.join("; ")));
+        }
+        some
+    };
     match words[1..] {
+        ["streams", some] => wanted(some).into_iter().for_each(|(_, stream)| println!("{}", stream.name)),
         ["time", rounds, some] => {
             println!("nanoseconds for a line; ratio: ours / the crate's; typed: ours, with the wrapper's types");
             println!("{:<44} {:>8} {:>8} {:>7} {:>14} {:>8}", "stream", "ours", "crate", "ratio", "least..most", "typed");
@@ -136,13 +151,14 @@ fn main() {
         ["count", some] => {
             println!("instructions for a line; ratio: ours / the crate's");
             println!("{:<44} {:>8} {:>8} {:>7}", "stream", "ours", "crate", "ratio");
-            wanted(some).into_iter().for_each(|(at, stream)| count(words[0], at, stream));
+            wanted(some).into_iter().for_each(|(at, stream)| count(sample, at, stream));
         }
         ["read", side, at, times] => {
-            let (_, read) = SIDES.iter().find(|(name, _)| *name == side).expect("a side");
-            read(&streams[number(at)].lines, number(times));
+            let Some((_, read)) = SIDES.iter().find(|(name, _)| *name == side) else { wrong(&format!("no such side: {side}")) };
+            let Some(stream) = streams.get(number(at)) else { wrong(&format!("no such stream: {at}")) };
+            read(&stream.lines, number(times));
         }
         ["lines", many] => write_lines(&streams, number(many)),
-        _ => panic!("time ROUNDS STREAM, count STREAM, read SIDE STREAM TIMES, or lines COUNT"),
+        _ => wrong("time ROUNDS STREAM, count STREAM, streams STREAM, read SIDE STREAM TIMES, or lines COUNT"),
     }
 }

@@ -1,24 +1,32 @@
-# What `compare` and `list` share: building the oracle's programs and running ours. Sourced by bash with -euo pipefail in force.
+# What the scripts here and those of bench/ share: building the oracle's programs and running ours. Sourced by bash with -euo pipefail in force, after
+# tools/usage.sh and with `root` set to the repository.
 
-say() { printf 'oracle: %s\n' "$*" >&2; }
-
-root=$(cd "$(dirname "${BASH_SOURCE[0]}")/.." && pwd -P)
-ais=$(realpath -e "${AIS_SOURCE:-$root/../shared/docs/src}") || { say "AIS_SOURCE has to name the folder that has the crate's src/"; exit 2; }
 registry=/usr/share/cargo/registry # where Debian's packages put the source of crates
-# A folder for each checkout and each source, because cargo tells a change by the times of files alone.
-room=${XDG_CACHE_HOME:-$HOME/.cache}/sumturnip-oracle/$(printf '%s\n' "$root" "$ais" | cksum | cut -d ' ' -f 1)
+
+# known_sets WORD..: each has to name a set of commands.
+known_sets() {
+    local set
+    for set in "$@"; do
+        case $set in unarmor | decode | read) ;; *) wrong "no such set: $set" ;; esac
+    done
+}
+
+# Finds the crate's source, and the room in which all is built: a folder for each checkout and each source, because cargo tells a change by the times of
+# files alone.
+settle() {
+    needs rt
+    ais=${AIS_SOURCE:-$root/../shared/docs/src}
+    [ -f "$ais/src/messages/mod.rs" ] || { say "the crate's src/ is not in $ais: AIS_SOURCE has to name the folder that has it"; exit 2; }
+    ais=$(realpath -e "$ais")
+    room=${XDG_CACHE_HOME:-$HOME/.cache}/sumturnip-oracle/$(printf '%s\n' "$root" "$ais" | cksum | cut -d ' ' -f 1)
+}
 
 # Installs the Debian packages that building the driver needs and the machine has not.
 packages() {
     local missing=()
     command -v cargo >/dev/null || missing+=(cargo)
     compgen -G "$registry/nom-7*" >/dev/null || missing+=(librust-nom-dev)
-    [ ${#missing[@]} -gt 0 ] || return 0
-    say "installing ${missing[*]}"
-    local become=()
-    [ "$(id -u)" = 0 ] || become=(sudo)
-    "${become[@]}" apt-get update -qq
-    "${become[@]}" apt-get install -qq -y --no-install-recommends "${missing[@]}" >&2
+    [ ${#missing[@]} -eq 0 ] || install "${missing[@]}"
 }
 
 # Puts the crate together in the room: links to its own files, and a stand-in for each module that it names and has not.

@@ -2,11 +2,14 @@
 
 requests SEED COUNT                          commands for the writer
 lines REQUESTS WRITTEN                       the writer's answers are those of document 01
-reads SEED COUNT REQUESTS WRITTEN            the lines as commands for a reader: each message in order, then storms
+reads SEED COUNT REQUESTS WRITTEN            the lines as commands for a reader: each message in order, with each line end, then storms
 back SEED COUNT REQUESTS WRITTEN ANSWERS     the answers give back what was sent, and deliver what has to be delivered
 """
 import random
 import sys
+
+# a line's own end, and those that a receiver may hand on in its place
+ENDS = [b"\r\n", b"\n", b""]
 
 TALKERS = ["AB", "AD", "AI", "AN", "AR", "AS", "AT", "AX", "BS", "SA"]
 
@@ -83,11 +86,11 @@ def fail(*words):
 
 
 def taken(commands, answers):
-    """The requests whose lines were written, with the lines as the writer gave them."""
+    """The requests whose lines were written, with the lines as the writer gave them but for their ends."""
     for command, answer in zip(commands, answers):
         if answer.startswith("lines "):
             text = bytes.fromhex(answer.split()[1])
-            yield Request(command), [line + b"\r\n" for line in text.split(b"\r\n")[:-1]]
+            yield Request(command), text.split(b"\r\n")[:-1]
 
 
 def lines(commands, answers):
@@ -120,19 +123,20 @@ def storm(r, sent):
 
 
 def runs(seed, count, sent):
-    """What is read, each run into a fresh record: every message in order, then the storms."""
+    """What is read, each run into a fresh record, as (message, line, line end): every message in order with each end, then the storms."""
     r = random.Random(f"storms {seed}")
-    for m, (_, text) in enumerate(sent):
-        yield [(m, i) for i in range(1, len(text) + 1)]
+    for end in ENDS:
+        for m, (_, text) in enumerate(sent):
+            yield [(m, i, end) for i in range(1, len(text) + 1)]
     for _ in range(count):
-        yield storm(r, sent)
+        yield [(m, i, r.choice(ENDS)) for m, i in storm(r, sent)]
 
 
 def reads(seed, count, sent):
     for arrivals in runs(seed, count, sent):
         print("fresh")
-        for m, i in arrivals:
-            print("read 0 384 288", sent[m][1][i - 1].hex())
+        for m, i, end in arrivals:
+            print("read 0 384 288", (sent[m][1][i - 1] + end).hex())
     for request, _ in sent:
         text, fill = request.payload()
         print("unarmor", fill, 288, text.encode().hex())
@@ -141,7 +145,7 @@ def reads(seed, count, sent):
 def in_order(sent, arrivals, m):
     """Whether the lines of m come in order with no first line of several between its first and its last."""
     wanted = 0
-    for k, i in arrivals:
+    for k, i, _ in arrivals:
         if i == 1 and len(sent[k][1]) > 1:
             wanted = 2 if k == m else 0
         elif k == m and i == wanted:
@@ -154,21 +158,22 @@ def in_order(sent, arrivals, m):
 def back(seed, count, sent, answers):
     rest = iter(answers)
     handed = delivered = 0
+    following = lambda: next(rest, None) or fail("answers are missing")
     for n, arrivals in enumerate(runs(seed, count, sent)):
-        if next(rest) != "fresh":
+        if following() != "fresh":
             fail("no fresh record")
-        ours = {(sent[m][0].payload()[0].encode().hex(), sent[m][0].payload()[1]) for m, _ in arrivals}
+        ours = {(sent[m][0].payload()[0].encode().hex(), sent[m][0].payload()[1]) for m, _, _ in arrivals}
         out = []
-        for m, i in arrivals:
-            words = next(rest).split()
-            if n < len(sent) and words[0] == "refused":
+        for _ in arrivals:
+            words = following().split()
+            if n < len(ENDS) * len(sent) and words[0] == "refused":
                 fail("a line of ours, in order, was refused", words)
             if words[0] == "complete":
                 out.append((words[11], int(words[7])))
         if not set(out) <= ours:
             fail("a payload was handed out that was not sent", arrivals)
         handed += len(out)
-        for m in {m for m, _ in arrivals}:
+        for m in {m for m, _, _ in arrivals}:
             request, text = sent[m]
             whole = (request.payload()[0].encode().hex(), request.payload()[1])
             if in_order(sent, arrivals, m) if len(text) > 1 else True:
@@ -179,25 +184,26 @@ def back(seed, count, sent, answers):
         bits = request.bits()
         size = ((len(bits) + 5) // 6 * 6 + 7) // 8
         data = int(bits.ljust(size * 8, "0"), 2).to_bytes(size, "big").hex()
-        if next(rest) != f"bytes {data} ; kept":
+        if following() != f"bytes {data} ; kept":
             fail("other bits came back", request.count, request.data.hex())
-    print(f"storms: {len(sent)} messages read back, {count} storms, {handed} payloads handed out, {delivered} had to be", file=sys.stderr)
+    print(f"storms: {len(sent)} messages read back with CR LF, with LF and bare, {count} storms, {handed} payloads handed out, {delivered} had to be", file=sys.stderr)
 
 
 def main():
-    what, arguments = sys.argv[1], sys.argv[2:]
     read = lambda name: open(name, encoding="ascii").read().split("\n")[:-1]
-    if what == "requests":
-        requests(arguments[0], int(arguments[1]))
-    elif what == "lines":
-        lines(read(arguments[0]), read(arguments[1]))
-    else:
-        seed, count = arguments[0], int(arguments[1])
-        sent = list(taken(read(arguments[2]), read(arguments[3])))
-        if what == "reads":
-            reads(seed, count, sent)
-        else:
-            back(seed, count, sent, read(arguments[4]))
+    written = lambda requests, answers: list(taken(read(requests), read(answers))) or fail("none of the requests was written: a larger COUNT has some")
+    match sys.argv[1:]:
+        case ["requests", seed, count]:
+            requests(seed, int(count))
+        case ["lines", asked, answers]:
+            lines(read(asked), read(answers))
+        case ["reads", seed, count, asked, answers]:
+            reads(seed, int(count), written(asked, answers))
+        case ["back", seed, count, asked, answers, heard]:
+            back(seed, int(count), written(asked, answers), read(heard))
+        case _:
+            print(f"storms.py: what it is asked for is one of these:\n{__doc__}", file=sys.stderr)
+            sys.exit(2)
 
 
 main()

@@ -32,7 +32,7 @@ fn main() {
         ["read", "cases"] => read::cases(&mut commands),
         ["read", "short"] => read::short(&mut commands, &published()),
         [set, "random", seed, count] => {
-            let count = count.parse().expect("COUNT is a number");
+            let Ok(count) = count.parse() else { usage() };
             let mut random = Random::new(&format!("{set} {seed}"));
             let published = published();
             while commands.made < count {
@@ -50,7 +50,8 @@ fn main() {
 }
 
 fn usage() -> ! {
-    panic!("generate unarmor|decode|read cases|short|random [SEED COUNT]")
+    eprintln!("usage: generate unarmor|decode|read cases|short, or generate unarmor|decode|read random SEED COUNT");
+    std::process::exit(2)
 }
 
 /// The published lines, where the file is at hand.

@@ -1,7 +1,9 @@
 //! A message, from the numbers at places 16 to 49 of an answer and its texts.
 
 use crate::sentence::optional;
+use crate::text::Text;
 
+/// A decoded message, or none.
 #[derive(Clone, Debug, PartialEq)]
 pub enum Message {
     Nothing,
@@ -10,6 +12,7 @@ pub enum Message {
     Interrogation(Interrogation),
 }
 
+/// Which way a ship turns.
 #[derive(Clone, Copy, Debug, PartialEq, Eq)]
 pub enum Turning {
     Port,
@@ -24,19 +27,31 @@ pub struct PositionReport {
     pub mmsi: u32,
     /// 15 is absent.
     pub navigation_status: u8,
+    /// As it was sent.
     pub turn: Option<i8>,
+    /// Degrees a minute, never negative; a turn of -127 or 127 has none.
     pub rate_of_turn: Option<f32>,
     pub direction: Option<Turning>,
+    /// Knots.
     pub speed_over_ground: Option<f32>,
+    /// Tenths of a knot.
     pub speed_raw: u16,
     pub dgps: bool,
+    /// Degrees, east positive.
     pub longitude: Option<f32>,
+    /// 1/600000 of a degree.
     pub longitude_raw: i32,
+    /// Degrees, north positive.
     pub latitude: Option<f32>,
+    /// 1/600000 of a degree.
     pub latitude_raw: i32,
+    /// Degrees from true north.
     pub course_over_ground: Option<f32>,
+    /// Tenths of a degree.
     pub course_raw: u16,
+    /// Degrees from true north.
     pub true_heading: Option<u16>,
+    /// The second of the minute; 60 to 63 stand for none.
     pub timestamp: u8,
     /// 0 is absent.
     pub maneuver_indicator: u8,
@@ -61,7 +76,7 @@ pub enum Sub {
 }
 
 /// Type 24.
-#[derive(Clone, Debug, PartialEq, Eq)]
+#[derive(Clone, Copy, Debug, PartialEq, Eq)]
 pub struct StaticDataReport {
     pub message_type: u8,
     pub repeat_indicator: u8,
@@ -69,21 +84,24 @@ pub struct StaticDataReport {
     pub part: Part,
 }
 
-#[derive(Clone, Debug, PartialEq, Eq)]
+/// A part of a static data report: A has the name, B the rest; 2 and 3 are unknown.
+#[derive(Clone, Copy, Debug, PartialEq, Eq)]
 pub enum Part {
-    A { vessel_name: Vec<u8> },
+    A { vessel_name: Text },
     B(PartB),
     Unknown(u8),
 }
 
-#[derive(Clone, Debug, PartialEq, Eq)]
+/// Distances are metres from the antenna.
+#[derive(Clone, Copy, Debug, PartialEq, Eq)]
 pub struct PartB {
     pub ship_type: u8,
-    pub vendor_id: Vec<u8>,
+    pub vendor_id: Text,
     pub unit_model_code: u8,
     pub serial_number: u32,
-    pub model_serial: Vec<u8>,
-    pub callsign: Vec<u8>,
+    /// The bits of model and serial number as text.
+    pub model_serial: Text,
+    pub callsign: Text,
     pub bow: u16,
     pub stern: u16,
     pub port: u16,
@@ -99,6 +117,7 @@ pub struct Interrogation {
     pub stations: Vec<Station>,
 }
 
+/// A station that is asked, and what for.
 #[derive(Clone, Debug, PartialEq, Eq)]
 pub struct Station {
     pub mmsi: u32,
@@ -174,7 +193,7 @@ impl Radio {
 
 impl StaticDataReport {
     fn of(n: &[u64], texts: &[u8]) -> Self {
-        let text = |k: usize| texts[20 * k..][..n[28 + k] as usize].to_vec();
+        let text = |k: usize| Text::of(&texts[20 * k..][..20], n[28 + k]);
         let part = match n[20] {
             0 => Part::A { vessel_name: text(0) },
             1 => Part::B(PartB {

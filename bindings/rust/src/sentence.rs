@@ -1,5 +1,8 @@
 //! A sentence, from the numbers at places 2 to 15 of an answer.
 
+use crate::counts::{Bits, Bytes};
+
+/// The talkers in the order of their numbers.
 #[derive(Clone, Copy, Debug, PartialEq, Eq)]
 pub enum Talker {
     Unknown,
@@ -29,6 +32,7 @@ const TALKERS: [Talker; 11] = [
     Talker::SA,
 ];
 
+/// The report types in the order of their numbers.
 #[derive(Clone, Copy, Debug, PartialEq, Eq)]
 pub enum ReportType {
     Unknown,
@@ -45,11 +49,11 @@ pub struct Sentence {
     pub fragment_number: u8,
     pub message_id: Option<u8>,
     pub channel: Option<u8>,
-    pub fill_bit_count: u8,
+    pub fill_bit_count: Bits,
     pub message_type: u8,
     pub true_type: Option<u8>,
-    pub payload_len: usize,
-    pub sent_bits: usize,
+    pub payload_len: Bytes,
+    pub sent_bits: Bits,
 }
 
 /// What may be absent: two places, whether it is there and its number.
@@ -71,11 +75,11 @@ impl Sentence {
             fragment_number: n[5] as u8,
             message_id: byte(6),
             channel: byte(8),
-            fill_bit_count: n[10] as u8,
+            fill_bit_count: Bits(n[10] as usize),
             message_type: n[11] as u8,
             true_type: byte(12),
-            payload_len: n[14] as usize,
-            sent_bits: n[15] as usize,
+            payload_len: Bytes(n[14] as usize),
+            sent_bits: Bits(n[15] as usize),
         }
     }
 }

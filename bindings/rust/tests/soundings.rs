@@ -1,6 +1,6 @@
 //! Document 01's soundings on lines and on unarmoring, through the wrapper.
 
-use sumturnip::{unarmor, Asked, Message, Outcome, Part, Radio, Reader, Refusal, StaticDataReport, Station, Sub};
+use sumturnip::{unarmor, Asked, Bits, Message, Outcome, Part, Radio, Reader, Refusal, StaticDataReport, Station, Sub};
 
 fn refused(number: u32, a: u64, b: u64) -> Outcome {
     Outcome::Refused(Refusal { number, values: [a, b] })
@@ -35,7 +35,7 @@ fn two_lines() {
     let mut reader = Reader::new();
     assert_eq!(reader.read(b"!AIVDM,2,1,3,A,w,0*61", false), Outcome::Unfinished);
     assert_eq!(reader.read(b"!AIVDM,2,2,3,A,w,5*67", false), Outcome::Complete);
-    assert_eq!((reader.payload(), reader.sentence().fill_bit_count, reader.sentence().sent_bits), (&b"ww"[..], 5, 7));
+    assert_eq!((reader.payload(), reader.sentence().fill_bit_count, reader.sentence().sent_bits), (&b"ww"[..], Bits(5), Bits(7)));
 }
 
 #[test]
@@ -67,7 +67,7 @@ fn position_reports() {
     assert_eq!(report.message_type, 1);
     assert_eq!(report.radio, Radio::Sotdma { sync_state: 0, slot_timeout: 0, sub_message: Sub::SlotOffset(0) });
     let (outcome, reader) = decoded(&zeros(26));
-    assert_eq!((outcome, reader.sentence().sent_bits), (Outcome::Complete, 162));
+    assert_eq!((outcome, reader.sentence().sent_bits), (Outcome::Complete, Bits(162)));
     assert_eq!(decoded(&zeros(25)).0, refused(9, 0, 0));
 }
 
@@ -104,7 +104,9 @@ fn a_published_name() {
     let mut reader = Reader::new();
     assert_eq!(reader.read(b"!AIVDM,1,1,,A,H42O55i18tMET00000000000000,2*6D", true), Outcome::Complete);
     let Message::StaticDataReport(report) = reader.message() else { panic!("no report") };
-    assert_eq!((report.mmsi, report.part), (271041815, Part::A { vessel_name: b"PROGUY".to_vec() }));
+    let Part::A { vessel_name } = report.part else { panic!("no name") };
+    assert_eq!((report.mmsi, vessel_name.as_str(), vessel_name.as_bytes()), (271041815, "PROGUY", &b"PROGUY"[..]));
+    assert_eq!(format!("{vessel_name} {vessel_name:?}"), "PROGUY \"PROGUY\"");
 }
 
 #[test]
@@ -128,18 +130,18 @@ fn unarmoring() {
         (b"", 0, b""),
     ];
     for (payload, fill, due) in given {
-        assert_eq!(unarmor(payload, fill, &mut out), Ok(due));
+        assert_eq!(unarmor(payload, Bits(fill), &mut out), Ok(due));
     }
     assert_eq!(out[3], 0xaa);
     let refusal = |number, value| Err(Refusal { number, values: [value, 0] });
     for payload in [b"X", b"_", b"/", b"x"] {
-        assert_eq!(unarmor(payload, 0, &mut out), refusal(8, 0));
+        assert_eq!(unarmor(payload, Bits(0), &mut out), refusal(8, 0));
     }
-    assert_eq!(unarmor(b"wwX", 0, &mut out), refusal(8, 2));
-    assert_eq!(unarmor(b"", 1, &mut out), refusal(7, 0));
-    assert_eq!(unarmor(b"w", 6, &mut out), refusal(7, 0));
-    assert_eq!(unarmor(&[b'w'; 385], 0, &mut [0; 289]), refusal(6, 0));
-    assert_eq!(unarmor(b"ww", 0, &mut [0]), refusal(12, 0));
+    assert_eq!(unarmor(b"wwX", Bits(0), &mut out), refusal(8, 2));
+    assert_eq!(unarmor(b"", Bits(1), &mut out), refusal(7, 0));
+    assert_eq!(unarmor(b"w", Bits(6), &mut out), refusal(7, 0));
+    assert_eq!(unarmor(&[b'w'; 385], Bits(0), &mut [0; 289]), refusal(6, 0));
+    assert_eq!(unarmor(b"ww", Bits(0), &mut [0]), refusal(12, 0));
 }
 
 #[test]

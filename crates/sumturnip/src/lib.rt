@@ -1,17 +1,17 @@
-// The static library: the reader for C and Rust. A line, and a record in lent bytes, come in; numbers and bytes go out. Crates `layout_..` and
-// `record_bytes` flatten what an enum holds.
-use ais::Checked;
-use answer::Decode;
-use reassembly::JoinOutcome;
-use reassembly::Part;
-use sentence::AisSentence;
+// The static library: the reader and the writer for C and Rust. Numbers and lent bytes come in; numbers and bytes go out. Crates `layout_..`,
+// `record_bytes` and `record_read` flatten what an enum holds.
 ghost use mathlib.Core.Path.{_≡_};
-ghost use Prim.Native.Nat.{_≤_};
-ghost use lib.ListN.{length};
-ghost use Rattle.ais.specs.Call.{calledOf};
-ghost use Rattle.ais.specs.Parts.{handingOf};
-ghost use Rattle.record_bytes.specs.Bytes.{recordIn, loadedOf};
-ghost use Rattle.sumturnip.specs.Calls.{Ends, Reads, freshenedIn, freshenedOf, readIn, readOf, unarmsIn, unarmsOf};
+ghost use Rattle.layout_request.specs.Request.{requestBy};
+ghost use Rattle.record_read.specs.Read.{readIn, readOf};
+ghost use Rattle.sumturnip.specs.Calls.{version, freshenedIn, freshenedOf, fillsIn, unarmsOf, writesOf};
+
+// The library's version, which a caller holds against that of the header.
+#[no_mangle]
+pub extern "C" fn sumturnip_version() -> u32
+    ensures { λ r. ⌜ r ≡ version ⌝ }
+{
+    200
+}
 
 // A fresh record: 0, or 12 where the record's bytes are too few.
 #[no_mangle]
@@ -23,111 +23,6 @@ pub extern "C" fn sumturnip_fresh(lent: &mut [u8]) -> u32
     }
     record_bytes::store(reassembly::fresh(), lent);
     0
-}
-
-// The last line of several, once it is joined: the payload is handed out from where it lies.
-fn read_last(
-    s: AisSentence,
-    decode: Decode,
-    state: &mut [u8],
-    payload: &mut [u8],
-    bits: &mut [u8],
-    numbers: &mut [u64],
-    texts: &mut [u8],
-) -> u32
-    requires { ⌜ (400 ≤ length (now state)) × (loadedOf (now state) .len ≤ 384) ⌝ }
-    ensures { λ r. ⌜ Ends s decode (now (state .entry)) (now (payload .entry)) (now (bits .entry)) (now (numbers .entry)) (now (texts .entry)) r
-        (now (state .exit)) (now (payload .exit)) (now (bits .exit)) (now (numbers .exit)) (now (texts .exit)) ⌝ }
-{
-    let end = 16 + record_bytes::held_len(state);
-    let code = layout_told::tell_complete(
-        s,
-        &state[16..end],
-        decode,
-        payload,
-        bits,
-        numbers,
-        texts,
-    );
-    record_bytes::empty(state);
-    code
-}
-
-// A sentence with its payload: the record is changed where it lies, and what is told goes by the line's kind.
-fn read_sentence(
-    s: AisSentence,
-    own: &[u8],
-    decode: Decode,
-    state: &mut [u8],
-    payload: &mut [u8],
-    bits: &mut [u8],
-    numbers: &mut [u64],
-    texts: &mut [u8],
-) -> u32
-    requires { ⌜ 400 ≤ length (now state) ⌝ }
-    ensures { λ r. ⌜ Reads (handingOf (recordIn (now (state .entry))) s (now (own .entry)) decode (now (payload .entry)) (now (bits .entry)))
-        (now (state .entry)) (now (numbers .entry)) (now (texts .entry)) r (now (state .exit)) (now (payload .exit)) (now (bits .exit)) (now (numbers .exit))
-        (now (texts .exit)) ⌝ }
-{
-    match record_bytes::join(state, ais::fragment_of(s), own) {
-        JoinOutcome::Refused(refusal) => return layout_told::tell_refused(refusal, numbers, texts),
-        JoinOutcome::Taken(part) => match part {
-            Part::Unfinished => return layout_told::tell_unfinished(
-                s,
-                own,
-                payload,
-                numbers,
-                texts,
-            ),
-            Part::Alone => return layout_told::tell_complete(
-                s,
-                own,
-                decode,
-                payload,
-                bits,
-                numbers,
-                texts,
-            ),
-            Part::Last => return read_last(s, decode, state, payload, bits, numbers, texts),
-        },
-    }
-}
-
-// A line, with a record that is long enough.
-fn read_line(
-    line: &[u8],
-    decode: Decode,
-    state: &mut [u8],
-    payload: &mut [u8],
-    bits: &mut [u8],
-    numbers: &mut [u64],
-    texts: &mut [u8],
-) -> u32
-    requires { ⌜ 400 ≤ length (now state) ⌝ }
-    ensures { λ r. ⌜ Reads (calledOf (recordIn (now (state .entry))) (now (line .entry)) decode (now (payload .entry)) (now (bits .entry)))
-        (now (state .entry)) (now (numbers .entry)) (now (texts .entry)) r (now (state .exit)) (now (payload .exit)) (now (bits .exit)) (now (numbers .exit))
-        (now (texts .exit)) ⌝ }
-{
-    match ais::check(line, payload.len(), bits.len()) {
-        Checked::Refused(refusal) => {
-            record_bytes::keep(state);
-            layout_told::tell_refused(refusal, numbers, texts)
-        }
-        Checked::Sentence(s) => {
-            let start = s.payload_start;
-            let end = s.payload_end;
-            read_sentence(
-                s,
-                &line[start..end],
-                decode,
-                state,
-                payload,
-                bits,
-                numbers,
-                texts,
-            )
-        }
-    }
 }
 
 // Reads one line: 0 where a message is complete, 100 where more is to come, else the refusal's number.
@@ -144,17 +39,7 @@ pub extern "C" fn sumturnip_read(
     ensures { λ r. ⌜ readIn r (now (state .exit)) (now (payload .exit)) (now (bits .exit)) (now (answer .exit)) (now (texts .exit))
         ≡ readOf (now (state .entry)) (now (line .entry)) decode (now (payload .entry)) (now (bits .entry)) (now (answer .entry)) (now (texts .entry)) ⌝ }
 {
-    if state.len() < 400 {
-        return 12;
-    }
-    if answer.len() < 50 {
-        return 12;
-    }
-    if texts.len() < 80 {
-        return 12;
-    }
-    let decode = answer::decode_of(decode);
-    read_line(line, decode, state, payload, bits, answer, texts)
+    record_read::read(state, line, decode, payload, bits, answer, texts)
 }
 
 // Unarmoring alone: 0 with the count of bytes in the answer's first number, else the refusal's number with its value there.
@@ -165,7 +50,7 @@ pub extern "C" fn sumturnip_unarmor(
     out: &mut [u8],
     answer: &mut [u64],
 ) -> u32
-    ensures { λ r. ⌜ unarmsIn r (now (out .exit)) (now (answer .exit)) ≡ unarmsOf (now (payload .entry)) fill (now (out .entry)) (now (answer .entry)) ⌝ }
+    ensures { λ r. ⌜ fillsIn r (now (out .exit)) (now (answer .exit)) ≡ unarmsOf (now (payload .entry)) fill (now (out .entry)) (now (answer .entry)) ⌝ }
 {
     if answer.len() < 1 {
         return 12;
@@ -173,4 +58,30 @@ pub extern "C" fn sumturnip_unarmor(
     let r = armour::unarmor(payload, fill, out);
     answer[0] = layout_answer::unarmored_count(r);
     layout_answer::unarmored_code(r)
+}
+
+// The writer: 0 with the count of bytes in the answer's first number, else the refusal's number. Talker, report type and channel (whether there is one, and its
+// byte) have the numbers that `sumturnip_read` tells them by; any other number is refusal 13.
+#[no_mangle]
+pub extern "C" fn sumturnip_write(
+    count: usize,
+    talker: u64,
+    report: u64,
+    there: u64,
+    channel: u64,
+    number: u64,
+    bits: &[u8],
+    out: &mut [u8],
+    answer: &mut [u64],
+) -> u32
+    ensures { λ r. ⌜ fillsIn r (now (out .exit)) (now (answer .exit))
+        ≡ writesOf (requestBy count talker report there channel number) (now (bits .entry)) (now (out .entry)) (now (answer .entry)) ⌝ }
+{
+    if answer.len() < 1 {
+        return 12;
+    }
+    let request = layout_request::request_of(count, talker, report, there, channel, number);
+    let r = writer::write(request, bits, out);
+    answer[0] = layout_request::written_count(r);
+    layout_request::written_code(r)
 }

@@ -1,13 +1,12 @@
 -- `sumturnip::sumturnip_unarmor` meets its contract. Assumes nothing.
-use Rattle.sumturnip.proofs.Calls.{count-short, unarms-flattened}
+use Rattle.sumturnip.proofs.Calls.{count-short, fills-flattened}
 use borrow.Author.Needs.{needs}
 use Rattle.sumturnip.proofs.sumturnip_unarmor.Statement.{statement}
 use Rattle.sumturnip.proofs.sumturnip_unarmor.Tie as tie
 
 returns : tie.Need-returns
 returns c =
-    let s = c .before .before .before .before .args in
-    count-short (s .payload .now) (s .fill) (s .out .now) (s .answer .now) (c .if1 .taken)
+    count-short _ _ _ _ (c .if1 .taken)
 
 unarmor-requires : tie.Need-unarmor-requires
 unarmor-requires c κs = search needs
@@ -30,10 +29,8 @@ same-length-2 c = search needs
 returns-2 : tie.Need-returns-2
 returns-2 c =
     let at-unarmor = c .before .before .before .before in
-    let s = at-unarmor .before .before .before .before .before .before .args in
-    unarms-flattened (s .payload .now) (s .fill) (s .out .now) (s .answer .now) (at-unarmor .before .before .if1 .left) (at-unarmor .unarmor .result)
-    (at-unarmor .unarmor .ensures)
-    (c .unarmored-code .ensures) (c .before .unarmored-count .ensures)
+    let u = at-unarmor .unarmor .ensures in
+    fills-flattened _ _ _ _ (at-unarmor .before .before .if1 .left) (u .answers) (u .leaves) (c .unarmored-code .ensures) (c .before .unarmored-count .ensures)
 
 pub sumturnip-unarmor-spec : {M : Type 1} → statement M
 sumturnip-unarmor-spec =

@@ -1,11 +1,11 @@
--- `sumturnip::read_sentence` meets its contract: the record joined where it lies, then what is told by the line's kind. Assumes nothing.
+-- `record_read::read_sentence` meets its contract: the record joined where it lies, then what is told by the line's kind. Assumes nothing.
 use mathlib.Core.Path.{ap, _∙_}
 use Rattle.reassembly.specs.Record.{partIn}
 use Rattle.reassembly.specs.declared.JoinOutcome.the-variants.{Taken}
-use Rattle.sumturnip.proofs.Calls.{reads-refused, reads-unfinished, reads-complete, reads-last, last-long, last-few}
+use Rattle.record_read.proofs.Calls.{reads-refused, reads-unfinished, reads-complete, reads-last, last-long, last-few}
 use borrow.Author.Needs.{needs}
-use Rattle.sumturnip.proofs.read_sentence.Statement.{statement}
-use Rattle.sumturnip.proofs.read_sentence.Tie as tie
+use Rattle.record_read.proofs.read_sentence.Statement.{statement}
+use Rattle.record_read.proofs.read_sentence.Tie as tie
 
 fragment-of-requires : tie.Need-fragment-of-requires
 fragment-of-requires c κs = search needs

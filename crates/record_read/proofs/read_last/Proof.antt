@@ -1,12 +1,12 @@
--- `sumturnip::read_last` meets its contract: the bytes held are handed out, and the record is emptied. Assumes nothing.
+-- `record_read::read_last` meets its contract: the bytes held are handed out, and the record is emptied. Assumes nothing.
 use mathlib.Core.Path.{ap}
 use mathlib.Core.List.{List}
 use Prim.Native.Nat.{ℕ, _≤_}
 use Rattle.answer.specs.Answer.{completeOf}
-use Rattle.sumturnip.proofs.Calls.{held-part, hears-as}
+use Rattle.record_read.proofs.Calls.{held-part, hears-as}
 use borrow.Author.Needs.{needs}
-use Rattle.sumturnip.proofs.read_last.Statement.{statement}
-use Rattle.sumturnip.proofs.read_last.Tie as tie
+use Rattle.record_read.proofs.read_last.Statement.{statement}
+use Rattle.record_read.proofs.read_last.Tie as tie
 
 held-len-requires : tie.Need-held-len-requires
 held-len-requires c κs = search needs

@@ -1,13 +1,13 @@
--- `sumturnip::read_line` meets its contract: refused before the record, or its sentence. Assumes nothing.
+-- `record_read::read_line` meets its contract: refused before the record, or its sentence. Assumes nothing.
 use mathlib.Core.Path.{sym, ap, _∙_}
 use native.Mathlib.Omega.{arith}
 use Rattle.ais.specs.Parts.{checkedIn}
 use Rattle.ais.proofs.Called.{its-sentence, its-parsed}
 use Rattle.record_bytes.specs.Bytes.{recordIn}
-use Rattle.sumturnip.proofs.Calls.{reads-early, reads-sentence}
+use Rattle.record_read.proofs.Calls.{reads-early, reads-sentence}
 use borrow.Author.Needs.{needs}
-use Rattle.sumturnip.proofs.read_line.Statement.{statement}
-use Rattle.sumturnip.proofs.read_line.Tie as tie
+use Rattle.record_read.proofs.read_line.Statement.{statement}
+use Rattle.record_read.proofs.read_line.Tie as tie
 
 check-requires : tie.Need-check-requires
 check-requires c κs = search needs
