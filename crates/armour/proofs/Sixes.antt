@@ -31,26 +31,26 @@ good-at (b ∷ s) i h g =
     good zero h l p more = l
     good (suc i) h l p more = more i (omega arith) (omega arith)
 
-module _ (f : ℕ → ℕ) where
+module _ (f : ℕ → ℕ) (size : ℕ) where
   -- the first i characters stand there, and zeros after them
   pub record Begun (i : ℕ) (out : List ℕ) : Type 0 where
-    pub long : length out ≡ 384
+    pub long : length out ≡ size
     pub six : (j : ℕ) → j < i → getD out j 0 ≡ val f (j * 6) 6
     pub rest : (j : ℕ) → i ≤ j → getD out j 0 ≡ 0
 
   abbrev zeros : List ℕ
-  zeros = replicate 384 0
+  zeros = replicate size 0
 
-  zeros-long : length zeros ≡ 384
-  zeros-long = length-replicate {A = ℕ} 384 0
+  zeros-long : length zeros ≡ size
+  zeros-long = length-replicate {A = ℕ} size 0
 
   zero-at : (j : ℕ) → getD zeros j 0 ≡ 0
-  zero-at j = ⊎-elim (getD-replicate {A = ℕ} 384 j 0 0) (λ l. List·getD-eq-default zeros 0 {n = j} (omega (arith, zeros-long))) (lt-or-le j 384)
+  zero-at j = ⊎-elim (getD-replicate {A = ℕ} size j 0 0) (λ l. List·getD-eq-default zeros 0 {n = j} (omega (arith, zeros-long))) (lt-or-le j size)
 
-  pub begun : Begun 0 (replicate 384 0)
-  begun = record { long = zeros-long; six = λ j h. absurd (omega arith); rest = λ j h. zero-at j }
+  pub begun : (out : List ℕ) → out ≡ replicate size 0 → Begun 0 out
+  begun out e = record { long = ap length e ∙ zeros-long; six = λ j h. absurd (omega arith); rest = λ j h. rw e (zero-at j) }
 
-  pub begun-more : (i v : ℕ) (out : List ℕ) → Begun i out → i < 384 → v ≡ val f (i * 6) 6 → Begun (i + 1) (set out i v)
+  pub begun-more : (i v : ℕ) (out : List ℕ) → Begun i out → i < size → v ≡ val f (i * 6) 6 → Begun (i + 1) (set out i v)
   begun-more i v out b h e = record {
     long = simp length-set (b .long);
     six = λ j l. ⊎-elim (λ k. getD-set-other out i j v 0 (λ q. omega arith) ∙ b .six j k) (λ k. here j (omega arith)) (lt-or-le j i);
@@ -77,5 +77,5 @@ module _ (s : List ℕ) (fill : ℕ) (p : Spreads s fill) where
   pub last : (i : ℕ) → i + 1 ≡ length s → meaning (getD s i 0) / 2 ^ fill * 2 ^ fill ≡ val (stream s fill) (i * 6) 6
   last i h = ap (λ (x : ℕ). x / 2 ^ fill * 2 ^ fill) (whole i (omega arith)) ∙ six-last s fill i h (p .filled)
 
-  pub all : (n : ℕ) (out : List ℕ) → n ≡ length s → Begun (stream s fill) n out → Sixes (stream s fill) out
-  all n out e b = begun-all (stream s fill) n out b (stream-lt s fill) (λ j l. six-past s fill j (omega arith))
+  pub all : (size n : ℕ) (out : List ℕ) → n ≡ length s → Begun (stream s fill) size n out → Sixes (stream s fill) out
+  all size n out e b = begun-all (stream s fill) size n out b (stream-lt s fill) (λ j l. six-past s fill j (omega arith))

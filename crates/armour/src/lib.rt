@@ -2,12 +2,12 @@
 use refusal::Refusal;
 ghost use mathlib.Core.Path.{_≡_};
 ghost use mathlib.Core.List.{_++_};
-ghost use Prim.Native.Nat.{ℕ, _*_, _/_, _^_, _≤_, _<_};
+ghost use Prim.Native.Nat.{ℕ, _+_, _*_, _/_, _^_, _≤_, _<_};
 ghost use lib.Dec.{ltb, leb};
 ghost use lib.ListN.{length, drop, replicate};
 ghost use Rattle.parsers.specs.Bits.{val, pack};
 ghost use Rattle.armour.specs.Armour.{meaning, trueType, firstBad, stream};
-ghost use Rattle.armour.specs.Spread.{Spreads, Sixes};
+ghost use Rattle.armour.specs.Spread.{Spreads, Rooms, Sixes};
 ghost use Rattle.armour.specs.Unarmor.{Unarmors};
 
 // How many bytes stand first in the output, or why there are none.
@@ -101,8 +101,8 @@ fn last_six(b: u8, fill: usize) -> u8
 }
 
 // The six bits of every character of a payload that is all armour, where zeros stood.
-fn put_sixes(payload: &[u8], fill: usize, out: &mut [u8; 384])
-    requires { ⌜ Spreads (now payload) fill × (now out ≡ replicate 384 0) ⌝ }
+fn put_sixes(payload: &[u8], fill: usize, out: &mut [u8])
+    requires { ⌜ Spreads (now payload) fill × ((length (now payload) ≤ length (now out)) × (now out ≡ replicate (length (now out)) 0)) ⌝ }
     ensures { λ _. ⌜ Sixes (stream (now (payload .entry)) fill) (now (out .exit)) ⌝ }
 {
     if payload.len() == 0 {
@@ -125,8 +125,8 @@ fn wide(v: u8) -> u32
 }
 
 // Four characters from character i on, as one number.
-fn four_at(s: &[u8; 384], i: usize) -> u32
-    requires { ⌜ i ≤ 380 ⌝ }
+fn four_at(s: &[u8], i: usize) -> u32
+    requires { ⌜ i + 4 ≤ length (now s) ⌝ }
     ensures { λ r. ⌜ ((f : ℕ → ℕ) → Sixes f (now (s .entry)) → r ≡ val f (i * 6) 24) ⌝ }
 {
     let a = wide(s[i]);
@@ -139,8 +139,8 @@ fn four_at(s: &[u8; 384], i: usize) -> u32
 }
 
 // The first 3 times `groups` bytes of the output, each three from the four characters that they are made of.
-fn put_groups(s: &[u8; 384], groups: usize, out: &mut [u8])
-    requires { ⌜ (groups ≤ 96) × (groups * 3 ≤ length (now out)) ⌝ }
+fn put_groups(s: &[u8], groups: usize, out: &mut [u8])
+    requires { ⌜ (groups * 4 ≤ length (now s)) × (groups * 3 ≤ length (now out)) ⌝ }
     ensures { λ _. ⌜ ((f : ℕ → ℕ) → Sixes f (now (s .entry)) → now (out .exit) ≡ pack 8 (groups * 3) f ++ drop (groups * 3) (now (out .entry))) ⌝ }
 {
     let mut k: usize = 0;
@@ -154,25 +154,38 @@ fn put_groups(s: &[u8; 384], groups: usize, out: &mut [u8])
     }
 }
 
-// The output's `need` bytes, from its start: three at a time, and then what is left.
-fn spread(payload: &[u8], fill: usize, need: usize, out: &mut [u8])
-    requires { ⌜ Spreads (now payload) fill × ((need ≤ 288) × (need ≤ length (now out))) ⌝ }
+// The output's `need` bytes, from its start: three at a time, and then what is left. `s` is room for the six bits of each character.
+fn spread_by(payload: &[u8], fill: usize, need: usize, s: &mut [u8], out: &mut [u8])
+    requires { ⌜ Spreads (now payload) fill × (Rooms (now payload) need (now s) × (need ≤ length (now out))) ⌝ }
     ensures { λ _. ⌜ now (out .exit) ≡ pack 8 need (stream (now (payload .entry)) fill) ++ drop need (now (out .entry)) ⌝ }
 {
-    let mut s = [0u8; 384];
-    put_sixes(payload, fill, &mut s);
+    put_sixes(payload, fill, s);
     let groups = need / 3;
-    put_groups(&s, groups, out);
+    put_groups(s, groups, out);
     let j = groups * 3;
     if need <= j {
         return;
     }
-    let v = four_at(&s, groups * 4);
+    let v = four_at(s, groups * 4);
     out[j] = ((v >> 16) & 255) as u8;
     if need <= j + 1 {
         return;
     }
     out[j + 1] = ((v >> 8) & 255) as u8;
+}
+
+// The same, with room to work in: little of it for the payload of a usual line.
+fn spread(payload: &[u8], fill: usize, need: usize, out: &mut [u8])
+    requires { ⌜ Spreads (now payload) fill × ((need ≡ (length (now payload) * 6 + 7) / 8) × (need ≤ length (now out))) ⌝ }
+    ensures { λ _. ⌜ now (out .exit) ≡ pack 8 need (stream (now (payload .entry)) fill) ++ drop need (now (out .entry)) ⌝ }
+{
+    if payload.len() <= 64 {
+        let mut s = [0u8; 64];
+        spread_by(payload, fill, need, &mut s, out);
+        return;
+    }
+    let mut s = [0u8; 384];
+    spread_by(payload, fill, need, &mut s, out);
 }
 
 // Unarmors a payload of at most 384 characters into `out`: refusals 7, 6, 12 and 8, in that order.

@@ -66,7 +66,7 @@ loop-less c = search needs
 loop-again : tie.Need-loop-again Inv-loop μ-loop
 loop-again c =
     let l = c .before .before .loop in
-    let a = c .before .before .before .before .args in
+    let a = c .before .before .before .before .before .args in
     let k = l .k in
     let v = c .four-at .result in
     let same : v ≡ v / 2 ^ 0 = omega arith in (
@@ -89,7 +89,7 @@ same-length c = search needs
 
 returns : tie.Need-returns Inv-loop μ-loop
 returns c f s =
-    let e : c .before .loop .k ≡ c .before .before .before .args .groups = omega arith in
+    let e : c .before .loop .k ≡ c .before .before .before .before .args .groups = omega arith in
     rw (← e) (c .before .loop .inv .1 .1 f s)
 
 pub put-groups-spec : {M : Type 1} → statement M

@@ -10,33 +10,33 @@ use Rattle.armour.proofs.put_sixes.Statement.{statement}
 use Rattle.armour.proofs.put_sixes.Tie as tie
 
 abbrev Inv-loop : tie.InvT-loop
-Inv-loop payload fill out₀ last i₀ out i = (i ≤ last) × Begun (stream payload fill) i out
+Inv-loop payload fill out₀ last i₀ out i = (i ≤ last) × Begun (stream payload fill) (length out₀) i out
 
 abbrev μ-loop : tie.MeasureT-loop
 μ-loop payload fill out₀ last i₀ out i = last - i
 
 returns : tie.Need-returns Inv-loop μ-loop
 returns c =
-    let i = c .before .before in
+    let i = c .before .before .before in
     let a = i .args in
-    rw (i .pre .1) (all (a .payload .now) (a .fill) (i .pre .0) 0 _ (omega arith) (begun _))
+    all (a .payload .now) (a .fill) (i .pre .0) (length (a .out .now)) 0 _ (omega arith) (begun _ _ _ (i .pre .1 .1))
 
 sub-last : tie.Need-sub-last Inv-loop μ-loop
 sub-last c = search needs
 
 loop-holds : tie.Need-loop-holds Inv-loop μ-loop
-loop-holds c = (omega arith, rw (c .before .before .pre .1) (begun _))
+loop-holds c = (omega arith, begun _ _ _ (c .before .before .before .pre .1 .1))
 
 shared-slice-read-value : tie.Need-shared-slice-read-value Inv-loop μ-loop
 shared-slice-read-value c = search needs
 
 value-requires : tie.Need-value-requires Inv-loop μ-loop
-value-requires c κs = good _ _ (c .before .before .before .before .before .pre .0) (c .before .before .loop .i) (omega arith)
+value-requires c κs = good _ _ (c .before .before .before .before .before .before .pre .0) (c .before .before .loop .i) (omega arith)
 
-element-write-out : tie.Need-element-write-out Inv-loop μ-loop
-element-write-out c =
-    let start = c .before .before .before .before .before .before in
-    omega (arith, start .pre .0 .few)
+slice-write-out : tie.Need-slice-write-out Inv-loop μ-loop
+slice-write-out c =
+    let start = c .before .before .before .before .before .before .before in
+    omega (arith, start .pre .1 .0)
 
 add-i : tie.Need-add-i Inv-loop μ-loop
 add-i c = search needs
@@ -47,33 +47,36 @@ loop-less c = search needs
 loop-again : tie.Need-loop-again Inv-loop μ-loop
 loop-again c =
     let at-loop = c .before .before .before in
-    let i = at-loop .before .before .before in
+    let i = at-loop .before .before .before .before in
     let l = at-loop .loop in
-    (omega arith, begun-more _ (l .i) _ (l .out) (l .inv .1) (omega (arith, i .pre .0 .few)) (c .value .ensures ∙ inner _ _ (i .pre .0) (l .i) (omega arith)))
+    (omega arith, begun-more _ _ (l .i) _ (l .out) (l .inv .1) (omega (arith, i .pre .1 .0)) (c .value .ensures ∙ inner _ _ (i .pre .0) (l .i) (omega arith)))
 
 shared-slice-read-last-six : tie.Need-shared-slice-read-last-six Inv-loop μ-loop
 shared-slice-read-last-six c = search needs
 
 last-six-requires : tie.Need-last-six-requires Inv-loop μ-loop
 last-six-requires c κs =
-    let p = c .before .before .before .before .before .pre .0 in
+    let p = c .before .before .before .before .before .before .pre .0 in
     (good _ _ p _ (omega arith), omega (arith, p .filled))
 
-element-write-out-2 : tie.Need-element-write-out-2 Inv-loop μ-loop
-element-write-out-2 c =
-    let start = c .before .before .before .before .before .before in
-    omega (arith, start .pre .0 .few)
+slice-write-out-2 : tie.Need-slice-write-out-2 Inv-loop μ-loop
+slice-write-out-2 c =
+    let start = c .before .before .before .before .before .before .before in
+    omega (arith, start .pre .1 .0)
 
 returns-2 : tie.Need-returns-2 Inv-loop μ-loop
 returns-2 c =
     let at-loop = c .before .before .before in
-    let i = at-loop .before .before .before in
+    let i = at-loop .before .before .before .before in
     let l = at-loop .loop in
     let a = i .args in
     let n = length (a .payload .now) - 1 in
     let e : l .i ≡ n = omega arith in
     let six = c .last-six .ensures ∙ last _ _ (i .pre .0) n (omega arith) in
-    all (a .payload .now) (a .fill) (i .pre .0) (n + 1) _ (omega arith) (begun-more _ n _ (l .out) (rw e at (l .inv .1)) (omega (arith, i .pre .0 .few)) six)
+    all (a .payload .now) (a .fill) (i .pre .0) (length (a .out .now)) (n + 1) _ (omega arith) (begun-more _ _ n _ (l .out) (rw e at (l .inv .1)) (omega (arith, i .pre .1 .0)) six)
+
+same-length : tie.Need-same-length Inv-loop μ-loop
+same-length c = search needs
 
 pub put-sixes-spec : {M : Type 1} → statement M
 put-sixes-spec =
@@ -86,11 +89,12 @@ put-sixes-spec =
     loop-holds
     shared-slice-read-value
     value-requires
-    element-write-out
+    slice-write-out
     add-i
     loop-less
     loop-again
     shared-slice-read-last-six
     last-six-requires
-    element-write-out-2
+    slice-write-out-2
+    same-length
     returns-2)

@@ -21,8 +21,8 @@ take-until-requires-2 c κs = search needs
 returns-2 : tie.Need-returns-2
 returns-2 c = search needs
 
-in-block-requires : tie.Need-in-block-requires
-in-block-requires c κs = search needs
+holds-requires : tie.Need-holds-requires
+holds-requires c κs = search needs
 
 take-until-requires-3 : tie.Need-take-until-requires-3
 take-until-requires-3 c κs = search needs
@@ -35,7 +35,7 @@ returns-4 c =
     let at-likely = c .before .before .before .before in
     let a = at-likely .before .before .args in
     first-is (a .b) (a .line .now) (a .at) _ (omega arith) (omega arith) (at-likely .likely .ensures (omega arith))
-    (sym (c .before .in-block .ensures) ∙ c .if3 .left)
+    (sym (c .before .holds .ensures) ∙ c .if3 .left)
 
 pub take-late-spec : {M : Type 1} → statement M
 take-late-spec =
@@ -46,7 +46,7 @@ take-late-spec =
     returns
     take-until-requires-2
     returns-2
-    in-block-requires
+    holds-requires
     take-until-requires-3
     returns-3
     returns-4)
