@@ -1,5 +1,6 @@
 // AIS lines from standard input, as a receiver or a log gives them, to a JSON object for each complete message and each refused line.
 use json::Kept;
+use json::Show;
 use stream::Input;
 use stream::Next;
 
@@ -13,10 +14,10 @@ struct Run {
 }
 
 // What came is answered.
-fn answer_next(s: Kept, next: Next, line: &[u8], out: &mut [u8]) -> Kept {
+fn answer_next(s: Kept, next: Next, line: &[u8], out: &mut [u8], tally: &mut [u64]) -> Kept {
     match next {
-        Next::Line(n) => json::answer_line(s, n, line, out),
-        Next::TooLong => json::answer_long(s, out),
+        Next::Line(n) => json::answer_line(s, n, line, Show::All, out, tally),
+        Next::TooLong => json::answer_long(s, line, Show::All, out, tally),
         Next::Nothing => s,
     }
 }
@@ -32,13 +33,13 @@ fn emptied(s: Kept, out: &[u8]) -> Kept {
 }
 
 // The next line, answered.
-fn answer_one(s: Run, block: &mut [u8], line: &mut [u8], out: &mut [u8]) -> Run {
+fn answer_one(s: Run, block: &mut [u8], line: &mut [u8], out: &mut [u8], tally: &mut [u64]) -> Run {
     let input = s.input;
     let kept = s.kept;
     let t = stream::next_line(input, MOST, true, block, line);
     let rest = t.input;
     let next = t.next;
-    let told = answer_next(kept, next, line, out);
+    let told = answer_next(kept, next, line, out, tally);
     Run {
         input: rest,
         kept: emptied(told, out),
@@ -47,11 +48,17 @@ fn answer_one(s: Run, block: &mut [u8], line: &mut [u8], out: &mut [u8]) -> Run 
 
 // All lines. Nothing says that the input ends, so the loop counts its rounds down, from a number that no run uses up.
 // Answers how much of the output buffer is in use at the end.
-fn answer_all(s: Run, block: &mut [u8], line: &mut [u8], out: &mut [u8]) -> usize {
+fn answer_all(
+    s: Run,
+    block: &mut [u8],
+    line: &mut [u8],
+    out: &mut [u8],
+    tally: &mut [u64],
+) -> usize {
     let mut now = s;
     let mut rounds = u64::MAX;
     while rounds > 0 {
-        now = answer_one(now, block, line, out);
+        now = answer_one(now, block, line, out, tally);
         if !now.input.more {
             return now.kept.used;
         }
@@ -64,6 +71,7 @@ fn main() {
     let mut out = io::large_buffer();
     let mut block = io::large_buffer();
     let mut line = [0u8; 1024];
+    let mut tally = [0u64; 256];
     let input = stream::start();
     let fresh = reassembly::fresh();
     let kept = Kept {
@@ -72,6 +80,6 @@ fn main() {
         used: 0,
     };
     let begun = Run { input, kept };
-    let used = answer_all(begun, &mut block, &mut line, &mut out);
+    let used = answer_all(begun, &mut block, &mut line, &mut out, &mut tally);
     stream::write_out(&out, used);
 }

@@ -13,10 +13,11 @@ use Rattle.text_out.specs.Digits.{glyph, decimalOf, hexOf, wordOf}
 use Rattle.text_out.proofs.Decimals.{one-digit}
 use Rattle.text_out.proofs.Lengths.{decimal-most, hex-length}
 use Rattle.face_values.specs.Signed.{signIn, sizeIn, signedIn}
-use Rattle.face_values.specs.Point.{tenthsIn, sixDigits, fixed, millionths, degreesIn}
+use Rattle.face_values.specs.Point.{tenthsIn, sixDigits, nineDigits, fixed, millionths, degreesIn}
+use Rattle.face_values.specs.Rate.{patterns, billionthsOf, fixedNine, rateIn}
 use Rattle.face_values.specs.Quoted.{codeOf, escaped, inside, quotedIn, shownIn}
-use Rattle.face_rows.specs.Rows.{Value, nothing, number, signed, tenths, degrees, quoted, hexed, pattern, Row, holds, textAt, valueText, rowText}
-use Rattle.face_rows.specs.Rows.{printed, printedFrom}
+use Rattle.face_rows.specs.Rows.{Value, nothing, number, signed, tenths, degrees, quoted, hexed, pattern, letter, pair, float, Row, holds}
+use Rattle.face_rows.specs.Rows.{textAt, valueText, rowText, printed, printedFrom}
 use Rattle.face_rows.specs.Bound.{valueBound, boundOf}
 
 -- ---- the forms of a value
@@ -40,6 +41,14 @@ degrees-most : (n : ℕ) → length (degreesIn n) ≤ 1 + 20 + 1 + 6
 degrees-most n =
     let m = millionths (sizeIn n) in
     omega (arith, length-append (signIn n) (fixed m), sign-most n, length-append (decimalOf (m / 1000000)) (46 ∷ sixDigits m), decimal-most (m / 1000000))
+
+rate-most : (n : ℕ) → length (rateIn n) ≤ 20 + 1 + 9
+unfolding rateIn
+rate-most n = go (ltb n patterns) (billionthsOf n)
+  where
+    go : (t : Bool) (k : ℕ) → length (pick t (fixedNine k) (ascii "null")) ≤ 20 + 1 + 9
+    go true k = omega (arith, length-append (decimalOf (k / 10 ^ 9)) (46 ∷ nineDigits k), decimal-most (k / 10 ^ 9))
+    go false k = omega arith
 
 escaped-most : (b : ℕ) → length (escaped b) ≤ 6
 unfolding escaped hexOf
@@ -83,6 +92,9 @@ module _ (room : ℕ) (numbers texts : List ℕ) (h : length texts ≤ room) whe
   value-most (degrees place) = degrees-most (getD numbers place 0)
   value-most (quoted place start) = quoted-most room (textAt texts start (getD numbers place 0)) (text-most place start)
   value-most (hexed place start) = shown-most room (textAt texts start (getD numbers place 0)) (text-most place start)
+  value-most (letter place) = quoted-most 1 (getD numbers place 0 % 256 ∷ []) (omega arith)
+  value-most (pair place) = omega arith
+  value-most (float place) = rate-most (getD numbers place 0)
   value-most (pattern place) = hex-most (getD numbers place 0 % 2 ^ 32)
     where
       hex-most : (n : ℕ) → length (wordOf n) ≤ 8

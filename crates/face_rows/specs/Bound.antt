@@ -2,7 +2,7 @@
 use Prim.Native.Nat.{ℕ, _+_, _*_}
 use mathlib.Core.List.{List, [], _∷_}
 use lib.ListN.{length}
-use Rattle.face_rows.specs.Rows.{Value, nothing, number, signed, tenths, degrees, quoted, hexed, pattern, Row}
+use Rattle.face_rows.specs.Rows.{Value, nothing, number, signed, tenths, degrees, quoted, hexed, pattern, letter, pair, float, Row}
 
 -- the most bytes of a value, where the texts are `room` bytes long at most: a decimal has 20 digits, a sign, a point and a quotation mark are one byte,
 -- a byte of a string is six where it is told by its number, and two as hex
@@ -15,6 +15,9 @@ valueBound room (degrees place) = 1 + 20 + 1 + 6
 valueBound room (quoted place start) = 1 + 6 * room + 1
 valueBound room (hexed place start) = 1 + 2 * room
 valueBound room (pattern place) = 8
+valueBound room (letter place) = 1 + 6 + 1
+valueBound room (pair place) = 2
+valueBound room (float place) = 20 + 1 + 9
 
 -- the words and values of all rows
 abbrev pub boundOf : ℕ → List Row → ℕ
