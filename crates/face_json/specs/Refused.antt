@@ -1,8 +1,9 @@
--- A refused line as a JSON object: its number, document 01's number and values, and a reason in words.
+-- A refused line as a JSON object: its number, document 01's number and values, a reason in words, and the line's own text.
 use mathlib.Core.List.{List, _++_}
-use Rattle.face_rows.specs.Rows.{is, least, number, Row}
-use Rattle.face_rows.specs.Places.{firstValue, secondValue, line, code, valueCount}
-use Rattle.face_json.specs.Members.{words, wordsIf, valueIf, member}
+use Rattle.face_rows.specs.Rows.{is, isNot, least, number, pair, quoted, Row, group}
+use Rattle.face_rows.specs.Places.{firstValue, secondValue, line, code, valueCount, textLength, textCut, senderThere, sender, anotherKind, textStart}
+use Rattle.face_rows.specs.Reasons.{reasons}
+use Rattle.face_json.specs.Members.{words, wordsIf, valueIf, member, memberIf, wordsFrom}
 
 -- "An array structure is represented as square brackets surrounding zero or more values" (RFC 8259): a refusal returns at most two
 abbrev pub valuesTable : List Row
@@ -12,22 +13,18 @@ valuesTable =
     ++ valueIf (least valueCount 2) "," (number secondValue)
     ++ words "]"
 
--- document 01's table of refusals, column 'When'
+-- refusal 3: the checksum that stands in the line and the one found, as a line has them
+abbrev pub checksumTable : List Row
+checksumTable =
+    valueIf (is code 3) ",\"checksum\":\"" (pair firstValue) ++ valueIf (is code 3) "\",\"computed\":\"" (pair secondValue) ++ wordsIf (is code 3) "\""
+
+-- refusal 10: the type, and the sender where its bits are there
+abbrev pub typeTable : List Row
+typeTable = memberIf (is code 10) "type" (number firstValue) ++ memberIf (is senderThere 1) "mmsi" (number sender)
+
+-- the reason of its number
 abbrev pub reasonTable : List Row
-reasonTable =
-    wordsIf (is code 1) "line over 1024 bytes"
-    ++ wordsIf (is code 2) "line breaks the line rules"
-    ++ wordsIf (is code 3) "checksum differs"
-    ++ wordsIf (is code 4) "message number differs from the one before"
-    ++ wordsIf (is code 5) "fragment number is not the next one"
-    ++ wordsIf (is code 6) "payload over 384 bytes"
-    ++ wordsIf (is code 7) "fill over 5, or fill with empty data"
-    ++ wordsIf (is code 8) "byte cannot be unarmored"
-    ++ wordsIf (is code 9) "message ends inside a needed field"
-    ++ wordsIf (is code 10) "message type is not decoded"
-    ++ wordsIf (is code 11) "message type is unknown"
-    ++ wordsIf (is code 12) "a lent output is too small"
-    ++ wordsIf (is code 13) "request outside the writer's limits"
+reasonTable = wordsIf (is anotherKind 1) "NMEA sentence of another kind" ++ group (isNot anotherKind 1) (wordsFrom code 1 reasons)
 
 abbrev pub refusedTable : List Row
 refusedTable =
@@ -35,6 +32,11 @@ refusedTable =
     ++ member "line" (number line)
     ++ member "refusal" (number code)
     ++ valuesTable
+    ++ checksumTable
+    ++ typeTable
     ++ words ",\"message\":\""
     ++ reasonTable
-    ++ words "\"}\n"
+    ++ words "\""
+    ++ member "text" (quoted textLength textStart)
+    ++ wordsIf (is textCut 1) ",\"text_cut\":true"
+    ++ words "}\n"

@@ -1,33 +1,75 @@
 -- Messages as JSON objects, by gpsd's names: the members of the AIVDM description's tables in their order. What is absent is null; speeds, courses and
 -- positions are written from the number as sent, the raw number after each.
 use mathlib.Core.List.{List, _++_}
-use Rattle.face_rows.specs.Rows.{is, number, signed, tenths, degrees, quoted, Row, group}
+use lib.ListN.{take, drop}
+use Rattle.face_rows.specs.Rows.{is, isNot, least, below, number, signed, tenths, degrees, quoted, letter, float, Row, group}
+use Rattle.face_rows.specs.Places.{talker, report, channelThere, channel, rateThere, rate}
 use Rattle.face_rows.specs.Places.{type, repeat, mmsi, status, turnThere, turn, speedThere, speedRaw, accuracy, longitudeThere, longitudeRaw}
 use Rattle.face_rows.specs.Places.{latitudeThere, latitudeRaw, courseThere, courseRaw, headingThere, heading, second, manoeuvre, raim, line, radio}
 use Rattle.face_rows.specs.Places.{part, shipType, model, serial, toBow, toStern, toPort, toStarboard, nameLength, vendorLength, modelTextLength}
 use Rattle.face_rows.specs.Places.{callsignLength, stations, firstMmsi, firstMessages, firstType1, firstOffsetThere1, firstOffset1, firstType2}
 use Rattle.face_rows.specs.Places.{firstOffsetThere2, firstOffset2, secondMmsi, secondMessages, secondType1, secondOffsetThere1, secondOffset1, secondType2}
 use Rattle.face_rows.specs.Places.{secondOffsetThere2, secondOffset2, nameStart, vendorStart, modelTextStart, callsignStart}
-use Rattle.face_json.specs.Members.{words, member, memberIf, orNull, unlessNull, leastOrNull, flag}
+use Rattle.face_json.specs.Words.{statuses, thirties, fifties}
+use Rattle.face_json.specs.Members.{words, wordsIf, member, memberIf, orNull, unlessNull, leastOrNull, flag, between, wordsFrom}
+use Rattle.face_json.specs.Members.{quotedFrom, kindRows}
 
 -- an object of gpsd's class, with the number of the line in the input
 abbrev pub openedTable : List Row
 openedTable = words "{\"class\":\"AIS\"" ++ member "line" (number line)
 
+-- the line's talker, by its number in document 000's list; most are AI
+abbrev pub talkerTable : List Row
+talkerTable =
+    wordsIf (is talker 3) ",\"talker\":\"AI\""
+    ++ group (isNot talker 3)
+    (wordsIf (is talker 0) ",\"talker\":null"
+    ++ wordsIf (is talker 1) ",\"talker\":\"AB\""
+    ++ wordsIf (is talker 2) ",\"talker\":\"AD\""
+    ++ wordsIf (is talker 4) ",\"talker\":\"AN\""
+    ++ wordsIf (is talker 5) ",\"talker\":\"AR\""
+    ++ wordsIf (is talker 6) ",\"talker\":\"AS\""
+    ++ wordsIf (is talker 7) ",\"talker\":\"AT\""
+    ++ wordsIf (is talker 8) ",\"talker\":\"AX\""
+    ++ wordsIf (is talker 9) ",\"talker\":\"BS\""
+    ++ wordsIf (is talker 10) ",\"talker\":\"SA\"")
+
+-- its report type; most are VDM
+abbrev pub reportTable : List Row
+reportTable =
+    wordsIf (is report 1) ",\"report\":\"VDM\""
+    ++ group (isNot report 1) (wordsIf (is report 0) ",\"report\":null" ++ wordsIf (is report 2) ",\"report\":\"VDO\"")
+
 -- what every message has
 abbrev pub headTable : List Row
-headTable = openedTable ++ member "type" (number type) ++ member "repeat" (number repeat) ++ member "mmsi" (number mmsi)
+headTable =
+    openedTable
+    ++ talkerTable
+    ++ reportTable
+    ++ orNull "channel" channelThere (letter channel)
+    ++ member "type" (number type)
+    ++ member "repeat" (number repeat)
+    ++ member "mmsi" (number mmsi)
 
 -- a message that tells nothing, which decoding never gives
 abbrev pub nothingTable : List Row
 nothingTable = openedTable ++ words "}\n"
+
+-- the words of a status, in three groups; 15 is none
+abbrev pub statusTable : List Row
+statusTable =
+    group (below status 3) (quotedFrom "status_text" status 0 (take 3 statuses))
+    ++ between status 3 8 (quotedFrom "status_text" status 3 (take 5 (drop 3 statuses)))
+    ++ group (least status 8) (quotedFrom "status_text" status 8 (drop 8 statuses) ++ wordsIf (least status 15) ",\"status_text\":null")
 
 -- types 1 to 3; an absent status has the number 15, and an absent manoeuvre 0
 abbrev pub positionTable : List Row
 positionTable =
     headTable
     ++ unlessNull "status" status 15
+    ++ statusTable
     ++ orNull "turn" turnThere (signed turn)
+    ++ orNull "turn_rate" rateThere (float rate)
     ++ orNull "speed" speedThere (tenths speedRaw)
     ++ member "speed_raw" (number speedRaw)
     ++ flag "accuracy" accuracy
@@ -44,10 +86,28 @@ positionTable =
     ++ member "radio" (number radio)
     ++ words "}\n"
 
+-- the words of a ship type; above 99 there are none
+abbrev pub shipTable : List Row
+shipTable =
+    wordsIf (below shipType 100) ",\"shiptype_text\":\""
+    ++ wordsIf (is shipType 0) "Not available (default)"
+    ++ between shipType 1 20 (words "Reserved for future use")
+    ++ kindRows shipType 20 "Wing in ground (WIG)" ", Reserved for future use"
+    ++ between shipType 30 40 (wordsFrom shipType 30 thirties)
+    ++ kindRows shipType 40 "High speed craft (HSC)" ", No additional information"
+    ++ between shipType 50 60 (wordsFrom shipType 50 fifties)
+    ++ kindRows shipType 60 "Passenger" ", No additional information"
+    ++ kindRows shipType 70 "Cargo" ", No additional information"
+    ++ kindRows shipType 80 "Tanker" ", No additional information"
+    ++ kindRows shipType 90 "Other Type" ", no additional information"
+    ++ wordsIf (below shipType 100) "\""
+    ++ wordsIf (least shipType 100) ",\"shiptype_text\":null"
+
 -- what part 1 of type 24 has
-abbrev pub craftTable : List Row
-craftTable =
+abbrev pub craftMembers : List Row
+craftMembers =
     member "shiptype" (number shipType)
+    ++ shipTable
     ++ member "vendorid" (quoted vendorLength vendorStart)
     ++ member "model" (number model)
     ++ member "serial" (number serial)
@@ -58,14 +118,12 @@ craftTable =
     ++ member "to_port" (number toPort)
     ++ member "to_starboard" (number toStarboard)
 
--- type 24: of parts 2 and 3 "nothing more" is read (document 01)
+abbrev pub craftTable : List Row
+craftTable = headTable ++ member "partno" (number part) ++ craftMembers ++ words "}\n"
+
+-- the other parts of type 24: of parts 2 and 3 "nothing more" is read (document 01)
 abbrev pub staticTable : List Row
-staticTable =
-    headTable
-    ++ member "partno" (number part)
-    ++ memberIf (is part 0) "shipname" (quoted nameLength nameStart)
-    ++ group (is part 1) craftTable
-    ++ words "}\n"
+staticTable = headTable ++ member "partno" (number part) ++ memberIf (is part 0) "shipname" (quoted nameLength nameStart) ++ words "}\n"
 
 -- type 15, "at most two stations, each with at most two messages" (document 01): the members of all four are always there, null where nothing is asked
 abbrev pub askedTable : List Row

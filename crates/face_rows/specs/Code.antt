@@ -4,7 +4,8 @@ use mathlib.Core.List.{List, [], _∷_}
 use lib.Dec.{eqb}
 use lib.ListN.{take, drop}
 use Rattle.refusal.specs.Words.{pick}
-use Rattle.face_rows.specs.Rows.{Test, always, is, isNot, least, below, Value, nothing, number, signed, tenths, degrees, quoted, hexed, pattern, Row}
+use Rattle.face_rows.specs.Rows.{Test, always, is, isNot, least, below, Value, nothing, number, signed, tenths, degrees, quoted, hexed, pattern}
+use Rattle.face_rows.specs.Rows.{letter, pair, float, Row}
 
 -- the test T, of number PP against VV
 abbrev pub testIn : ℕ → ℕ → ℕ → Test
@@ -19,7 +20,10 @@ valueIn form one two =
     (pick (eqb form 2) (signed one)
     (pick (eqb form 3) (tenths one)
     (pick (eqb form 4) (degrees one)
-    (pick (eqb form 5) (quoted one two) (pick (eqb form 6) (hexed one two) (pick (eqb form 7) (pattern one) nothing))))))
+    (pick (eqb form 5) (quoted one two)
+    (pick (eqb form 6) (hexed one two)
+    (pick (eqb form 7) (pattern one)
+    (pick (eqb form 8) (letter one) (pick (eqb form 9) (pair one) (pick (eqb form 10) (float one) nothing)))))))))
 
 -- the word of LL bytes from FFF on
 abbrev pub wordIn : List ℕ → ℕ → List ℕ

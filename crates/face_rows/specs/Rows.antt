@@ -9,7 +9,8 @@ use Rattle.refusal.specs.Words.{pick}
 use Rattle.text_out.specs.Digits.{decimalOf, wordOf}
 use Rattle.face_values.specs.Signed.{signedIn}
 use Rattle.face_values.specs.Point.{tenthsIn, degreesIn}
-use Rattle.face_values.specs.Quoted.{quotedIn, shownIn}
+use Rattle.face_values.specs.Quoted.{quotedIn, shownIn, pairIn}
+use Rattle.face_values.specs.Rate.{rateIn}
 
 -- a test of the number at a place against a number
 pub data Test : Type 0 where
@@ -19,7 +20,8 @@ pub data Test : Type 0 where
   least : ℕ → ℕ → Test
   below : ℕ → ℕ → Test
 
--- a value: of the number at a place, or of the text whose length is at a place and whose bytes start at another
+-- a value: of the number at a place, or of the text whose length is at a place and whose bytes start at another; `letter` is a string of one byte,
+-- `pair` a byte as two hex digits, `float` a rate of turn from the bit pattern of its number
 pub data Value : Type 0 where
   nothing : Value
   number : ℕ → Value
@@ -29,6 +31,9 @@ pub data Value : Type 0 where
   quoted : ℕ → ℕ → Value
   hexed : ℕ → ℕ → Value
   pattern : ℕ → Value
+  letter : ℕ → Value
+  pair : ℕ → Value
+  float : ℕ → Value
 
 pub record Row : Type 0 where
   pub when : Test
@@ -62,6 +67,9 @@ valueText numbers texts (degrees place) = degreesIn (getD numbers place 0)
 valueText numbers texts (quoted place start) = quotedIn (textAt texts start (getD numbers place 0))
 valueText numbers texts (hexed place start) = shownIn (textAt texts start (getD numbers place 0))
 valueText numbers texts (pattern place) = wordOf (getD numbers place 0 % 2 ^ 32)
+valueText numbers texts (letter place) = quotedIn (getD numbers place 0 % 256 ∷ [])
+valueText numbers texts (pair place) = pairIn (getD numbers place 0)
+valueText numbers texts (float place) = rateIn (getD numbers place 0)
 
 abbrev pub rowText : List ℕ → List ℕ → Row → List ℕ
 rowText numbers texts r = r .word ++ valueText numbers texts (r .value)

@@ -93,6 +93,9 @@ fn put_value(
         5 => face_values::put_quoted(out, at, part(texts, two, n as usize)),
         6 => face_values::put_shown(out, at, part(texts, two, n as usize)),
         7 => text_out::put_word(out, at, (n % 4294967296) as u32),
+        8 => face_values::put_quoted(out, at, &[(n % 256) as u8]),
+        9 => face_values::put_pair(out, at, n),
+        10 => face_values::put_rate(out, at, n),
         _ => at,
     }
 }

@@ -19,6 +19,10 @@ sixDigits n =
     ∷ (48 + n % 10)
     ∷ []
 
+-- the last nine of them
+abbrev pub nineDigits : ℕ → List ℕ
+nineDigits n = (48 + n / 100000000 % 10) ∷ (48 + n / 10000000 % 10) ∷ (48 + n / 1000000 % 10) ∷ sixDigits n
+
 -- a count of millionths
 abbrev pub fixed : ℕ → List ℕ
 fixed n = decimalOf (n / 1000000) ++ 46 ∷ sixDigits n

@@ -1,46 +1,32 @@
--- What the tables of face_json say of a refused line is what json/specs/Object says of its number and its values. Assumes nothing.
-use Prim.Native.Nat.{ℕ, zero, suc, _+_, _≤_, _<_}
+-- What the table of face_json says of a refused line is what json/specs/Object says of its number, its values and what is told beside them. Assumes nothing.
+use Prim.Native.Nat.{ℕ, _+_, _≤_, min}
 use native.Mathlib.Omega.{arith}
 use mathlib.Core.Path.{_≡_, refl, sym, ap, _∙_}
+use mathlib.Core.Bool.{Bool, true, false, not}
 use mathlib.Core.List.{List, [], _∷_, _++_, append-nil, append-assoc}
-use lib.Dec.{leb}
-use lib.ListN.{length, getD}
-use borrow.Author.Tests.{eq-eqb, ne-eqb}
-use Rattle.refusal.specs.Words.{refused}
-use Rattle.messages.specs.declared.Message.{Message}
-use Rattle.answer.specs.declared.Sentence.{Sentence}
+use lib.Dec.{eqb, leb}
+use lib.ListN.{length, getD, take}
+use lib.Seq.{take-take}
+use Rattle.refusal.specs.Words.{pick}
+use Rattle.refusal.specs.Refusal.{rowOf}
+use Rattle.refusal.specs.Values.{Held}
+use Rattle.refusal.specs.declared.Refusal.{Refusal}
+use Rattle.refusal.specs.declared.Values.{Values}
 use Rattle.text_out.specs.Text.{ascii}
 use Rattle.text_out.specs.Digits.{decimalOf}
-use Rattle.face_rows.specs.Rows.{Row, is, least, nothing, number, row, printed}
+use Rattle.text_out.proofs.Laws.{take-min}
+use Rattle.layout_position.specs.Position.{flagOf}
+use Rattle.face_values.specs.Quoted.{quotedIn, pairIn}
+use Rattle.face_rows.specs.Rows.{Row, Test, is, isNot, least, nothing, number, pair, quoted, row, group, holds, printedFrom}
 use Rattle.face_rows.specs.Places as at
-use Rattle.face_json.specs.Refused.{valuesTable, reasonTable, refusedTable}
-use Rattle.face_json.specs.Line.{tableFor, jsonLine}
-use Rattle.json.specs.Answer.{lineFor, longLine}
-use Rattle.json.specs.Object.{member, array, reasons, reasonOf, refusedObject}
-use Rattle.json.proofs.Says.{Says, _then_, with-both, whole, said, none-says, row-says, row-silent, words-say, member-says}
-use Rattle.json.proofs.Said.{laid, after}
-
--- rows for reasons, the first of them for the number k
-abbrev rowsFrom : ℕ → List (List ℕ) → List Row
-rowsFrom k [] = []
-rowsFrom k (w ∷ l) = row (is at.code k) w nothing ∷ rowsFrom (suc k) l
-
-module _ {numbers texts : List ℕ} (n : ℕ) (code : getD numbers at.code 0 ≡ n) where
-  reasons-silent : (k : ℕ) (l : List (List ℕ)) → n < k → Says numbers texts (rowsFrom k l) []
-  reasons-silent k [] h = none-says
-  reasons-silent k (w ∷ l) h = row-silent (is at.code k) (rw code (ne-eqb n k (λ e. omega arith))) w nothing then reasons-silent (suc k) l (omega arith)
-
-  reasons-say : (k i : ℕ) (l : List (List ℕ)) → n ≡ k + i → Says numbers texts (rowsFrom k l) (getD l i [])
-  reasons-say k i [] e = none-says
-  reasons-say k zero (w ∷ l) e =
-      said (append-nil (w ++ []) ∙ append-nil w)
-      (row-says (is at.code k) (rw code (eq-eqb n k (omega arith))) w nothing then reasons-silent (suc k) l (omega arith))
-  reasons-say k (suc i) (w ∷ l) e =
-      row-silent (is at.code k) (rw code (ne-eqb n k (λ z. omega arith))) w nothing then reasons-say (suc k) i l (omega arith)
-
-reason-says : {numbers texts : List ℕ} (n : ℕ) → getD numbers at.code 0 ≡ n → Says numbers texts reasonTable (reasonOf n)
-reason-says zero e = reasons-silent zero e 1 reasons (omega arith)
-reason-says (suc i) e = reasons-say (suc i) e 1 i reasons (omega arith)
+use Rattle.face_json.specs.Members as face
+use Rattle.face_rows.specs.Reasons.{reasons}
+use Rattle.face_json.specs.Refused.{valuesTable, checksumTable, typeTable, reasonTable, refusedTable}
+use Rattle.face_json.specs.Line.{refusedLine}
+use Rattle.json.specs.Object.{member, array, inQuotes, reasonOf, sumMembers, typeMembers, textMembers, About, refusedObject}
+use Rattle.json.specs.Answer.{refusedNumbers}
+use Rattle.json.proofs.Says.{Says, _then_, whole, said, row-says, row-silent, group-says, group-silent, words-say, member-says, member-if-says}
+use Rattle.json.proofs.Chosen.{Tells, chosen-says}
 
 -- at most two values
 module _ {numbers texts : List ℕ} where
@@ -66,36 +52,121 @@ module _ {numbers texts : List ℕ} where
       then words-say "]")
   values-say (v ∷ w ∷ x ∷ values) h count one two = absurd (omega arith)
 
--- the reason, its quotes and the end
-ended : (s : List ℕ) → ascii ",\"message\":\"" ++ s ++ ascii "\"}\n" ≡ member "message" (ascii "\"" ++ s ++ ascii "\"") ++ ascii "}\n"
-ended s = ap (λ (l : List ℕ). ascii ",\"message\":\"" ++ l) (sym (append-assoc s (ascii "\"") (ascii "}\n")))
+-- ---- what depends on the number alone
+-- the reason: nothing is said of a number beyond 13
+abbrev reasonBy : ℕ → List ℕ
+reasonBy n = reasonOf n false
 
--- the object
-module _ {numbers texts : List ℕ} (line n : ℕ) (values : List ℕ) (few : length values ≤ 2) (its-line : getD numbers at.line 0 ≡ line)
-    (code : getD numbers at.code 0 ≡ n) (count : getD numbers at.valueCount 0 ≡ length values) (one : getD numbers at.firstValue 0 ≡ getD values 0 0)
-    (two : getD numbers at.secondValue 0 ≡ getD values 1 0) where
-  refused-says : Says numbers texts refusedTable (refusedObject line n values)
+reasons-told : Tells at.code 14 (face.wordsFrom at.code 1 reasons) reasonBy
+unfolding printedFrom
+reasons-told = tt
+
+-- a test that holds or not
+module _ {numbers texts : List ℕ} where
+  when-says : (t : Test) {rows : List Row} {s : List ℕ} → (holds numbers t ≡ true → Says numbers texts rows s)
+      → (holds numbers t ≡ false → Says numbers texts rows []) → Says numbers texts rows (pick (holds numbers t) s [])
+  when-says t {rows} {s} p q = go (holds numbers t) refl
+    where
+      go : (b : Bool) → holds numbers t ≡ b → Says numbers texts rows (pick b s [])
+      go true e = p e
+      go false e = q e
+
+-- ---- the object
+module _ (line n : ℕ) (values : List ℕ) (few : length values ≤ 2) (small : min n 14 ≡ n) (about : About) where
+  abbrev numbers : List ℕ
+  numbers = refusedNumbers line n values about
+
+  abbrev Rows : List Row → List ℕ → Type 0
+  Rows rows s = Says numbers (take 100 (about .text)) rows s
+
+  sums-say : Rows checksumTable (sumMembers n values)
+  sums-say =
+      when-says (is at.code 3)
+      (λ e. row-says (is at.code 3) e (ascii ",\"checksum\":\"") (pair at.firstValue)
+      then row-says (is at.code 3) e (ascii "\",\"computed\":\"") (pair at.secondValue)
+      then row-says (is at.code 3) e (ascii "\"") nothing)
+      (λ e. row-silent (is at.code 3) e (ascii ",\"checksum\":\"") (pair at.firstValue)
+      then row-silent (is at.code 3) e (ascii "\",\"computed\":\"") (pair at.secondValue)
+      then row-silent (is at.code 3) e (ascii "\"") nothing)
+
+  type-says : Rows typeTable (typeMembers n values (about .sender))
+  type-says =
+      when-says (is at.code 10)
+      (λ e. member-if-says "type" (is at.code 10) (number at.firstValue) e refl)
+      (λ e. row-silent (is at.code 10) e (face.key "type") (number at.firstValue))
+      then when-says (is at.senderThere 1)
+      (λ e. member-if-says "mmsi" (is at.senderThere 1) (number at.sender) e refl)
+      (λ e. row-silent (is at.senderThere 1) e (face.key "mmsi") (number at.sender))
+
+  reason-says : (other : Bool) → getD numbers at.anotherKind 0 ≡ flagOf other → Rows reasonTable (reasonOf n other)
+  reason-says true f =
+      said (append-nil _)
+      (row-says (is at.anotherKind 1) (ap (λ (k : ℕ). eqb k 1) f) (ascii "NMEA sentence of another kind") nothing
+      then group-silent (isNot at.anotherKind 1) (ap (λ (k : ℕ). not (eqb k 1)) f) (face.wordsFrom at.code 1 reasons))
+  reason-says false f =
+      row-silent (is at.anotherKind 1) (ap (λ (k : ℕ). eqb k 1) f) (ascii "NMEA sentence of another kind") nothing
+      then group-says (isNot at.anotherKind 1) (ap (λ (k : ℕ). not (eqb k 1)) f)
+      (chosen-says at.code 14 (face.wordsFrom at.code 1 reasons) reasonBy reasons-told n refl (ap reasonBy small))
+
+  text-said : quotedIn (take (min 100 (length (about .text))) (take 100 (about .text))) ≡ quotedIn (take 100 (about .text))
+  text-said =
+      let t = about .text in
+      ap quotedIn (take-take (min 100 (length t)) 100 t (omega arith) ∙ take-min 100 t)
+
+  cut-says : (cut : Bool) → getD numbers at.textCut 0 ≡ flagOf cut
+      → Rows (face.wordsIf (is at.textCut 1) ",\"text_cut\":true") (pick cut (member "text_cut" (ascii "true")) [])
+  cut-says true f = row-says (is at.textCut 1) (ap (λ (k : ℕ). eqb k 1) f) (ascii ",\"text_cut\":true") nothing
+  cut-says false f = row-silent (is at.textCut 1) (ap (λ (k : ℕ). eqb k 1) f) (ascii ",\"text_cut\":true") nothing
+
+  refused-says : Rows refusedTable (refusedObject line n values about)
   unfolding refusedObject
   refused-says =
-      with-both (member "message" (ascii "\"" ++ reasonOf n ++ ascii "\"")) (ascii "}\n")
-      (words-say "{\"class\":\"ERROR\""
-      then member-says "line" (number at.line) (ap decimalOf its-line)
-      then member-says "refusal" (number at.code) (ap decimalOf code)
-      then values-say values few count one two)
-      (said (ended (reasonOf n)) (words-say ",\"message\":\"" then reason-says n code then words-say "\"}\n"))
+      words-say "{\"class\":\"ERROR\""
+      then member-says "line" (number at.line) refl
+      then member-says "refusal" (number at.code) refl
+      then values-say values few refl refl refl
+      then sums-say
+      then type-says
+      then (words-say ",\"message\":\"" then reason-says (about .other) refl then words-say "\"")
+      then (member-says "text" (quoted at.textLength at.textStart) text-said then cut-says (about .cut) refl)
+      then words-say "}\n"
 
--- a refusal's number is none of those that stand for a message
-pub refused-said : (line n : ℕ) (values : List ℕ) (sentence : Sentence) (m : Message) (bits : List ℕ) → (n ≡ 0 → ⊥) → (n ≡ 100 → ⊥) → length values ≤ 2
-    → lineFor line (refused n values) sentence m bits ≡ refusedObject line n values
-unfolding jsonLine
-refused-said line n values sentence m bits p q few =
-    let l = laid (refused n values) sentence m line bits in
-    let its = after (refused n values) sentence m line bits in
-    ap (λ (c : ℕ). printed (tableFor c (getD (l .numbers) at.kind 0)) (l .numbers) (l .texts)) (its 2)
-    ∙ rw (ne-eqb n 0 p, ne-eqb n 100 q)
-    (whole (refused-says line n values few (its 0) (its 2) (its 3) refl refl))
+  refused-line : refusedLine numbers (take 100 (about .text)) ≡ refusedObject line n values about
+  unfolding refusedLine
+  refused-line = whole refused-says
 
--- a line that is too long to be held
-pub long-said : (line : ℕ) → longLine line ≡ refusedObject line 1 []
-unfolding jsonLine
-long-said line = whole (refused-says line 1 [] (omega arith) refl refl refl refl refl)
+-- ---- of a refusal of the code
+few-values : (r : Refusal) → length (rowOf r .values) ≤ 2
+few-values Refusal.LineTooLong = omega arith
+few-values Refusal.Line = omega arith
+few-values (Refusal.Checksum expected found) = omega arith
+few-values Refusal.MessageNumber = omega arith
+few-values Refusal.FragmentNumber = omega arith
+few-values Refusal.PayloadTooLong = omega arith
+few-values Refusal.Fill = omega arith
+few-values (Refusal.Armour offset) = omega arith
+few-values Refusal.Short = omega arith
+few-values (Refusal.OtherType n) = omega arith
+few-values (Refusal.UnknownType n) = omega arith
+few-values Refusal.Room = omega arith
+few-values Refusal.Request = omega arith
+
+small-number : (r : Refusal) → min (rowOf r .number) 14 ≡ rowOf r .number
+small-number Refusal.LineTooLong = refl
+small-number Refusal.Line = refl
+small-number (Refusal.Checksum expected found) = refl
+small-number Refusal.MessageNumber = refl
+small-number Refusal.FragmentNumber = refl
+small-number Refusal.PayloadTooLong = refl
+small-number Refusal.Fill = refl
+small-number (Refusal.Armour offset) = refl
+small-number Refusal.Short = refl
+small-number (Refusal.OtherType n) = refl
+small-number (Refusal.UnknownType n) = refl
+small-number Refusal.Room = refl
+small-number Refusal.Request = refl
+
+pub refusal-said : (line : ℕ) (r : Refusal) (about : About)
+    → refusedLine (refusedNumbers line (rowOf r .number) (rowOf r .values) about) (take 100 (about .text))
+    ≡ refusedObject line (rowOf r .number) (rowOf r .values) about
+refusal-said line r about = refused-line line (rowOf r .number) (rowOf r .values) (few-values r) (small-number r) about

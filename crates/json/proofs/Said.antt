@@ -26,7 +26,9 @@ use Rattle.messages.specs.declared.AisMessage.{AisMessage}
 use Rattle.messages.specs.declared.Message.{Message}
 use Rattle.answer.specs.Answer.{Progress, complete}
 use Rattle.answer.specs.declared.Sentence.{Sentence}
+use Rattle.text_out.specs.Text.{ascii}
 use Rattle.text_out.specs.Digits.{decimalOf}
+use Rattle.position_report.specs.Report.{statusNumber}
 use Rattle.layout_answer.specs.Sentence.{codeOf, valueCount, valuesOf, sentenceNumbers}
 use Rattle.layout_answer.specs.Answer.{numbersBy}
 use Rattle.layout_message.specs.Static.{textBytes}
@@ -36,19 +38,20 @@ use Rattle.layout.specs.Layout.{layoutBy}
 use Rattle.layout.specs.declared.Layout.{Layout}
 use Rattle.layout.proofs.Places.{name-starts, vendor-starts, model-starts, callsign-starts}
 use Rattle.face_values.specs.Quoted.{quotedIn}
-use Rattle.face_rows.specs.Rows.{Row, is, number, signed, tenths, degrees, quoted, group, textAt, printed}
+use Rattle.face_rows.specs.Rows.{Row, is, number, signed, tenths, degrees, quoted, letter, float, textAt, printed}
 use Rattle.face_rows.specs.Places as at
 use Rattle.face_json.specs.Members as face
-use Rattle.face_json.specs.Tables.{openedTable, positionTable, craftTable, staticTable, askedTable}
-use Rattle.face_json.specs.Line.{tableFor, jsonLine}
+use Rattle.face_json.specs.Tables.{openedTable, headTable, positionTable, craftMembers as craftRows, craftTable, staticTable, askedTable}
+use Rattle.face_json.specs.Line.{tableOf, messageLine}
 use Rattle.json.specs.Answer.{lineFor}
-use Rattle.json.specs.Object.{member, spelled, opened, positionObject, partNumber, craftMembers, partMembers, staticObject}
-use Rattle.json.specs.Object.{stationsOf, askedOf, tellAt, askedObject, messageObject}
+use Rattle.json.specs.Object.{member, spelled, opened, head, positionObject, partNumber, craftMembers}
+use Rattle.json.specs.Object.{partMembers, staticObject, stationsOf, askedOf, tellAt, askedObject, messageObject}
 use Rattle.json.proofs.Sound.{PositionSound, TextsSound, AskedSound, ContentSound, Sound}
-use Rattle.json.proofs.Says.{Says, _then_, whole, said, row-silent, group-says, group-silent, words-say, member-says, member-if-says, or-null-says}
+use Rattle.json.proofs.Says.{Says, _then_, whole, said, row-silent, words-say, member-says, member-if-says, or-null-says}
 use Rattle.json.proofs.Says.{unless-null-says, least-or-null-says, flag-says}
-use Rattle.json.proofs.Values.{signed-said, degrees-said, reading-said, turn-said, heading-said, manoeuvre-said, dgps-said, flag-said, text-said}
-use Rattle.json.proofs.Values.{mmsiTold, typeTold, offsetTold, first-said, second-said, first-offset, second-offset, of-first, of-second}
+use Rattle.json.proofs.Names.{talker-says, report-says, status-says, ship-says}
+use Rattle.json.proofs.Values.{signed-said, degrees-said, reading-said, rate-said, channel-said, turn-said, heading-said, manoeuvre-said, dgps-said, flag-said}
+use Rattle.json.proofs.Values.{text-said, mmsiTold, typeTold, offsetTold, first-said, second-said, first-offset, second-offset, of-first, of-second}
 
 -- ---- the layout of an answer: the four numbers after the fifty
 values-two : (t : Told Progress) → length (valuesOf t) ≡ 2
@@ -88,13 +91,25 @@ module _ (sentence : Sentence) (line : ℕ) (bits : List ℕ) where
     opens : Rows openedTable (opened line)
     opens = words-say "{\"class\":\"AIS\"" then member-says "line" (number at.line) (ap decimalOf (its 0))
 
-    -- its code is 0, and its kind has a table
-    by-kind : (kind : ℕ) {s : List ℕ} → getD (shown .numbers) at.kind 0 ≡ kind → Rows (tableFor 0 kind) s
+    -- what every message has, where its first three numbers stand
+    heads : (type repeat mmsi : ℕ) → getD (shown .numbers) at.type 0 ≡ type → getD (shown .numbers) at.repeat 0 ≡ repeat
+        → getD (shown .numbers) at.mmsi 0 ≡ mmsi → Rows headTable (head line sentence type repeat mmsi)
+    heads type repeat mmsi a b c =
+        opens
+        then talker-says (sentence .«talker_id») refl
+        then report-says (sentence .«report_type») refl
+        then or-null-says "channel" at.channelThere (letter at.channel) (channel-said (sentence .channel))
+        then member-says "type" (number at.type) (ap decimalOf a)
+        then member-says "repeat" (number at.repeat) (ap decimalOf b)
+        then member-says "mmsi" (number at.mmsi) (ap decimalOf c)
+
+    -- its kind and its part have a table
+    by-kind : (kind part : ℕ) {s : List ℕ} → getD (shown .numbers) at.kind 0 ≡ kind → getD (shown .numbers) at.part 0 ≡ part → Rows (tableOf kind part) s
         → lineFor line (taken complete) sentence m bits ≡ s
-    unfolding jsonLine
-    by-kind kind e p =
-        ap (λ (c : ℕ). printed (tableFor c (getD (shown .numbers) at.kind 0)) (shown .numbers) (shown .texts)) (its 2)
-        ∙ ap (λ (k : ℕ). printed (tableFor 0 k) (shown .numbers) (shown .texts)) e
+    unfolding messageLine
+    by-kind kind part e d p =
+        ap (λ (k : ℕ). printed (tableOf k (getD (shown .numbers) at.part 0)) (shown .numbers) (shown .texts)) e
+        ∙ ap (λ (k : ℕ). printed (tableOf kind k) (shown .numbers) (shown .texts)) d
         ∙ whole p
 
   -- with its content
@@ -107,16 +122,15 @@ module _ (sentence : Sentence) (line : ℕ) (bits : List ℕ) where
       abbrev position : Message
       position = of (AisMessage.PositionReport p)
 
-      position-says : Rows position positionTable (positionObject line p bits)
+      position-says : Rows position positionTable (positionObject line sentence p bits)
       position-says =
           let longitude = degrees-said (p .«longitude_raw») (sound .longitude) in
           let latitude = degrees-said (p .«latitude_raw») (sound .latitude) in
-          opens position
-          then member-says "type" (number at.type) refl
-          then member-says "repeat" (number at.repeat) refl
-          then member-says "mmsi" (number at.mmsi) refl
+          heads position (p .«message_type») (p .«repeat_indicator») (p .mmsi) refl refl refl
           then unless-null-says "status" at.status 15 refl
+          then status-says (statusNumber (p .«navigation_status»)) refl
           then or-null-says "turn" at.turnThere (signed at.turn) (turn-said (p .«rate_of_turn») (sound .turn))
+          then or-null-says "turn_rate" at.rateThere (float at.rate) (rate-said (p .rate))
           then or-null-says "speed" at.speedThere (tenths at.speedRaw) (reading-said (p .«speed_over_ground») refl)
           then member-says "speed_raw" (number at.speedRaw) refl
           then flag-says "accuracy" at.accuracy (dgps-said (p .«position_accuracy»))
@@ -166,9 +180,10 @@ module _ (sentence : Sentence) (line : ℕ) (bits : List ℕ) where
           (AisMessage.StaticDataReport
           (record { «message_type» = r .«message_type»; «repeat_indicator» = r .«repeat_indicator»; mmsi = r .mmsi; «message_part» = part }))
 
-      craft-says : (b : PartB) → Rows (static (MessagePart.PartB b)) craftTable (craftMembers b texts)
+      craft-says : (b : PartB) → Rows (static (MessagePart.PartB b)) craftRows (craftMembers b texts)
       craft-says b =
           member-says "shiptype" (number at.shipType) refl
+          then ship-says (b .«ship_type») refl
           then member-says "vendorid" (quoted at.vendorLength at.vendorStart) vendor-spelt
           then member-says "model" (number at.model) refl
           then member-says "serial" (number at.serial) refl
@@ -179,33 +194,33 @@ module _ (sentence : Sentence) (line : ℕ) (bits : List ℕ) where
           then member-says "to_port" (number at.toPort) refl
           then member-says "to_starboard" (number at.toStarboard) refl
 
-      number-says : (part : MessagePart) → Rows (static part) (face.member "partno" (number at.part)) (member "partno" (decimalOf (partNumber part)))
-      number-says MessagePart.PartA = member-says "partno" (number at.part) refl
-      number-says (MessagePart.PartB b) = member-says "partno" (number at.part) refl
-      number-says (MessagePart.Unknown n) = member-says "partno" (number at.part) refl
+      -- what stands before what a part has
+      before-part : (part : MessagePart) → getD (shown (static part) .numbers) at.part 0 ≡ partNumber part
+          → Rows (static part) (headTable ++ face.member "partno" (number at.part))
+          (head line sentence (r .«message_type») (r .«repeat_indicator») (r .mmsi) ++ member "partno" (decimalOf (partNumber part)))
+      before-part part e =
+          heads (static part) (r .«message_type») (r .«repeat_indicator») (r .mmsi) refl refl refl
+          then member-says "partno" (number at.part) (ap decimalOf e)
 
-      abbrev partTable : List Row
-      partTable = face.memberIf (is at.part 0) "shipname" (quoted at.nameLength at.nameStart) ++ group (is at.part 1) craftTable
-
-      part-says : (part : MessagePart) → PartSound part → Rows (static part) partTable (partMembers part texts)
-      part-says MessagePart.PartA h =
-          said (append-nil (member "shipname" (spelled (texts .«vessel_name»))))
-          (member-if-says "shipname" (is at.part 0) (quoted at.nameLength at.nameStart) refl name-spelt then group-silent (is at.part 1) refl craftTable)
-      part-says (MessagePart.PartB b) h =
-          row-silent (is at.part 0) refl (face.key "shipname") (quoted at.nameLength at.nameStart) then group-says (is at.part 1) refl (craft-says b)
-      part-says (MessagePart.Unknown n) h =
-          row-silent (is at.part 0) (neither n h .0) (face.key "shipname") (quoted at.nameLength at.nameStart)
-          then group-silent (is at.part 1) (neither n h .1) craftTable
-
-      static-says : PartSound (r .«message_part») → Rows (of (AisMessage.StaticDataReport r)) staticTable (staticObject line r texts)
-      static-says h =
-          opens (static (r .«message_part»))
-          then member-says "type" (number at.type) refl
-          then member-says "repeat" (number at.repeat) refl
-          then member-says "mmsi" (number at.mmsi) refl
-          then number-says (r .«message_part»)
-          then part-says (r .«message_part») h
-          then words-say "}\n"
+      static-said : (part : MessagePart) → PartSound part
+          → lineFor line (taken complete) sentence (static part) bits
+          ≡ head line sentence (r .«message_type») (r .«repeat_indicator») (r .mmsi)
+          ++ member "partno" (decimalOf (partNumber part))
+          ++ partMembers part texts
+          ++ ascii "}\n"
+      static-said MessagePart.PartA h =
+          by-kind (static MessagePart.PartA) 2 0 refl refl
+          (before-part MessagePart.PartA refl
+          then member-if-says "shipname" (is at.part 0) (quoted at.nameLength at.nameStart) refl name-spelt
+          then words-say "}\n")
+      static-said (MessagePart.PartB b) h =
+          by-kind (static (MessagePart.PartB b)) 2 1 refl refl (before-part (MessagePart.PartB b) refl then craft-says b then words-say "}\n")
+      static-said (MessagePart.Unknown n) h =
+          by-kind (static (MessagePart.Unknown n)) 2 n refl refl
+          (rw (neither n h .1)
+          (before-part (MessagePart.Unknown n) refl
+          then row-silent (is at.part 0) (neither n h .0) (face.key "shipname") (quoted at.nameLength at.nameStart)
+          then words-say "}\n"))
 
     -- ---- type 15
     module _ (sound : AskedSound i) where
@@ -218,12 +233,9 @@ module _ (sentence : Sentence) (line : ℕ) (bits : List ℕ) where
             ≡ tellAt tell (askedOf (stationsOf i) 1) k
         at-second = ap (λ (l : List asked.Message). tellAt tell l k) (of-second (sound .stations))
 
-      asked-says : Rows (of AisMessage.Interrogation) askedTable (askedObject line i)
+      asked-says : Rows (of AisMessage.Interrogation) askedTable (askedObject line sentence i)
       asked-says =
-          opens (of AisMessage.Interrogation)
-          then member-says "type" (number at.type) refl
-          then member-says "repeat" (number at.repeat) refl
-          then member-says "mmsi" (number at.mmsi) refl
+          heads (of AisMessage.Interrogation) (i .«message_type») (i .«repeat_indicator») (i .mmsi) refl refl refl
           then least-or-null-says "mmsi1" at.stations 1 (number at.firstMmsi) (first-said mmsiTold (sound .stations))
           then least-or-null-says "type1_1" at.firstMessages 1 (number at.firstType1) (first-said typeTold (sound .first) ∙ at-first typeTold 0)
           then or-null-says "offset1_1" at.firstOffsetThere1 (number at.firstOffset1) (first-offset (sound .first) ∙ at-first offsetTold 0)
@@ -238,12 +250,13 @@ module _ (sentence : Sentence) (line : ℕ) (bits : List ℕ) where
 
     -- ---- any type
     content-said : (content : AisMessage) → ContentSound content texts i
-        → lineFor line (taken complete) sentence (of content) bits ≡ messageObject line (of content) bits
+        → lineFor line (taken complete) sentence (of content) bits ≡ messageObject line sentence (of content) bits
     unfolding messageObject
-    content-said AisMessage.Nothing h = by-kind (of AisMessage.Nothing) 0 refl (opens (of AisMessage.Nothing) then words-say "}\n")
-    content-said (AisMessage.PositionReport p) h = by-kind (of (AisMessage.PositionReport p)) 1 refl (position-says p h)
-    content-said (AisMessage.StaticDataReport r) h = by-kind (of (AisMessage.StaticDataReport r)) 2 refl (static-says r (h .1) (h .0))
-    content-said AisMessage.Interrogation h = by-kind (of AisMessage.Interrogation) 3 refl (asked-says h)
+    content-said AisMessage.Nothing h = by-kind (of AisMessage.Nothing) 0 0 refl refl (opens (of AisMessage.Nothing) then words-say "}\n")
+    content-said (AisMessage.PositionReport p) h =
+        by-kind (of (AisMessage.PositionReport p)) 1 (statusNumber (p .«navigation_status»)) refl refl (position-says p h)
+    content-said (AisMessage.StaticDataReport r) h = static-said r (h .1) (r .«message_part») (h .0)
+    content-said AisMessage.Interrogation h = by-kind (of AisMessage.Interrogation) 3 (i .count) refl refl (asked-says h)
 
-  pub message-said : (m : Message) → Sound m → lineFor line (taken complete) sentence m bits ≡ messageObject line m bits
+  pub message-said : (m : Message) → Sound m → lineFor line (taken complete) sentence m bits ≡ messageObject line sentence m bits
   message-said m h = content-said (m .texts) (m .interrogation) (m .content) h

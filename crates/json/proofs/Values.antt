@@ -1,10 +1,10 @@
 -- A field as a row shows it, from the numbers that it is laid out as, is what the definitions say of the field. Assumes nothing.
-use Prim.Native.Nat.{ℕ, _+_, _-_, _^_, _≤_, _<_}
+use Prim.Native.Nat.{ℕ, _+_, _-_, _%_, _^_, _≤_, _<_}
 use native.Mathlib.Omega.{arith}
 use native.Mathlib.Nat.{mod-eq-of-lt}
 use mathlib.Core.Path.{_≡_, refl, sym, ap, _∙_}
 use mathlib.Core.Bool.{Bool, true, false}
-use mathlib.Core.List.{List}
+use mathlib.Core.List.{List, [], _∷_}
 use lib.Dec.{eqb, leb}
 use lib.IntN.{ℤ, pos, negsuc}
 use lib.Signed.{mag}
@@ -14,6 +14,7 @@ use borrow.Author.Tests.{lt-ltb, le-ltb, ne-eqb}
 use Rattle.refusal.specs.Words.{pick}
 use Rattle.text_out.specs.Text.{ascii}
 use Rattle.text_out.specs.Digits.{decimalOf}
+use Rattle.sentence.specs.declared.Channel.{Channel}
 use Rattle.parsers.specs.declared.Text.{Text}
 use Rattle.navigation.specs.Navigation.{accuracyNumber, manoeuvreNumber}
 use Rattle.navigation.specs.declared.Reading.{Reading}
@@ -27,10 +28,13 @@ use Rattle.interrogation.specs.declared.Message.{Message}
 use Rattle.interrogation.specs.declared.Station.{Station}
 use Rattle.layout_position.specs.Position.{wordOf, flagOf, readingIn, turnIn, headingIn}
 use Rattle.layout_message.specs.Asked.{offsetIn}
+use Rattle.layout_answer.specs.Sentence.{channelIn}
 use Rattle.face_values.specs.Signed.{signedIn}
 use Rattle.face_values.specs.Point.{degreesIn}
+use Rattle.face_values.specs.Rate.{rateIn}
 use Rattle.face_values.specs.Quoted.{quotedIn}
 use Rattle.json.specs.Object.{null, truth, integer, degreesText, readingText, turnText, headingText, manoeuvreText, isDgps, offsetText, spelled}
+use Rattle.json.specs.Object.{rateText, channelText}
 use Rattle.json.specs.Object.{askedOf, tellAt}
 use Rattle.json.proofs.Sound.{TurnSound, ManoeuvreSound, Few, no-one, only, two}
 
@@ -52,6 +56,14 @@ degrees-said (negsuc n) h =
 pub reading-said : (r : Reading) {s t : List ℕ} → s ≡ t → pick (eqb (readingIn r .there) 1) s null ≡ readingText r t
 reading-said Reading.Absent e = refl
 reading-said (Reading.Value x) e = e
+
+pub rate-said : (r : Reading) → pick (eqb (readingIn r .there) 1) (rateIn (readingIn r .value)) null ≡ rateText r
+rate-said Reading.Absent = refl
+rate-said (Reading.Value x) = refl
+
+pub channel-said : (c : Channel) → pick (eqb (channelIn c .there) 1) (quotedIn (channelIn c .value % 256 ∷ [])) null ≡ channelText c
+channel-said Channel.Absent = refl
+channel-said (Channel.Of c) = refl
 
 pub turn-said : (t : Turn) → TurnSound t → pick (eqb (turnIn t .there) 1) (signedIn (turnIn t .value)) null ≡ turnText t
 turn-said Turn.Absent h = refl

@@ -1,13 +1,16 @@
 -- A line of JSON, from the fields of the message that it tells: gpsd's names, in the order of the AIVDM description's tables. What stands in quotes is
 -- document 01's text, where nothing else is named.
-use Prim.Native.Nat.{ℕ, zero, suc, _+_, _*_, _/_}
+use Prim.Native.Nat.{ℕ, zero, suc, _+_, _*_, _/_, _%_}
 use Prim.Native.String.{String}
 use mathlib.Core.Bool.{Bool, true, false}
 use mathlib.Core.List.{List, [], _∷_, _++_}
-use lib.Dec.{eqb}
+use lib.Dec.{eqb, ltb}
 use lib.IntN.{ℤ, pos, negsuc}
 use lib.ListN.{getD, take}
-use Rattle.refusal.specs.Words.{pick, Told, taken, refused}
+use Rattle.refusal.specs.Words.{pick}
+use Rattle.sentence.specs.declared.TalkerId.{TalkerId}
+use Rattle.sentence.specs.declared.AisReportType.{AisReportType}
+use Rattle.sentence.specs.declared.Channel.{Channel}
 use Rattle.parsers.specs.Table.{numberAt}
 use Rattle.parsers.specs.declared.Text as sixbit
 use Rattle.navigation.specs.declared.Reading.{Reading}
@@ -29,11 +32,16 @@ use Rattle.interrogation.specs.declared.Station.{Station}
 use Rattle.interrogation.specs.declared.Interrogation.{Interrogation}
 use Rattle.messages.specs.declared.AisMessage.{AisMessage}
 use Rattle.messages.specs.declared.Message.{Message}
-use Rattle.answer.specs.Answer.{Progress, complete, unfinished}
+use Rattle.answer.specs.declared.Sentence.{Sentence}
+use Rattle.layout_numbers.specs.declared.Optional.{Optional}
+use Rattle.layout_position.specs.Position.{patternOf}
 use Rattle.text_out.specs.Text.{ascii}
 use Rattle.text_out.specs.Digits.{decimalOf}
 use Rattle.face_values.specs.Point.{tenthsIn, fixed}
-use Rattle.face_values.specs.Quoted.{quotedIn}
+use Rattle.face_values.specs.Rate.{rateIn}
+use Rattle.face_values.specs.Quoted.{quotedIn, pairIn}
+use Rattle.face_rows.specs.Reasons.{reasons}
+use Rattle.face_json.specs.Words.{statuses, shipTypes, spelt}
 
 -- a member after another: "A single comma separates a value from a following name. .. A single colon comes after each name" (RFC 8259)
 abbrev pub member : String → List ℕ → List ℕ
@@ -47,6 +55,10 @@ null = ascii "null"
 -- RFC 8259's two words for a flag
 abbrev pub truth : Bool → List ℕ
 truth b = pick b (ascii "true") (ascii "false")
+
+-- words in quotes; none of ours holds a character that is escaped
+abbrev pub inQuotes : List ℕ → List ℕ
+inQuotes w = ascii "\"" ++ w ++ ascii "\""
 
 -- a signed number: `negsuc n` is -1 - n, and a minus sign is 45
 abbrev pub integer : ℤ → List ℕ
@@ -70,6 +82,19 @@ readingText (Reading.Value x) sent = sent
 -- "Absent: status 15": of the statuses the absent one alone has that number
 abbrev pub statusText : NavigationStatus → List ℕ
 statusText s = pick (eqb (statusNumber s) 15) null (decimalOf (statusNumber s))
+
+-- the same in the AIVDM description's words
+abbrev pub statusName : ℕ → List ℕ
+statusName n = pick (ltb n 15) (inQuotes (getD (spelt statuses) n [])) null
+
+-- "Turn rate is .. absent at -127 and 127": degrees a minute, without a sign, that read back to the same single-precision value
+abbrev pub rateText : Reading → List ℕ
+rateText Reading.Absent = null
+rateText (Reading.Value x) = rateIn (patternOf x)
+
+-- a ship type in the AIVDM description's words, which end at 99. "Decoders should treat these like value 0" it says of larger ones; we say nothing of them
+abbrev pub shipName : ℕ → List ℕ
+shipName n = pick (ltb n 100) (inQuotes (getD shipTypes n [])) null
 
 -- "Absent: .. turn -128"; else the turn as it was sent
 abbrev pub turnText : Turn → List ℕ
@@ -102,21 +127,56 @@ offsetText (SlotOffset.Of slots) = decimalOf slots
 abbrev pub spelled : sixbit.Text → List ℕ
 spelled t = quotedIn (take (t .len) (t .bytes))
 
+-- ---- the line that completed the message
+-- its talker's two letters; "unknown ones kept as Unknown"
+abbrev pub talkerText : TalkerId → List ℕ
+talkerText TalkerId.AB = ascii "\"AB\""
+talkerText TalkerId.AD = ascii "\"AD\""
+talkerText TalkerId.AI = ascii "\"AI\""
+talkerText TalkerId.AN = ascii "\"AN\""
+talkerText TalkerId.AR = ascii "\"AR\""
+talkerText TalkerId.AS = ascii "\"AS\""
+talkerText TalkerId.AT = ascii "\"AT\""
+talkerText TalkerId.AX = ascii "\"AX\""
+talkerText TalkerId.BS = ascii "\"BS\""
+talkerText TalkerId.SA = ascii "\"SA\""
+talkerText TalkerId.Unknown = null
+
+-- its report type
+abbrev pub reportText : AisReportType → List ℕ
+reportText AisReportType.VDM = ascii "\"VDM\""
+reportText AisReportType.VDO = ascii "\"VDO\""
+reportText AisReportType.Unknown = null
+
+-- "channel up to a comma, its first byte kept or none": a byte is below 256
+abbrev pub channelText : Channel → List ℕ
+channelText Channel.Absent = null
+channelText (Channel.Of c) = quotedIn (c % 256 ∷ [])
+
 -- ---- messages
 -- an object of gpsd's class, with the number of the line in the input
 abbrev pub opened : ℕ → List ℕ
 opened line = ascii "{\"class\":\"AIS\"" ++ member "line" (decimalOf line)
 
--- what every message has: type, repeat and MMSI
-abbrev pub head : ℕ → ℕ → ℕ → ℕ → List ℕ
-head line type repeat mmsi = opened line ++ member "type" (decimalOf type) ++ member "repeat" (decimalOf repeat) ++ member "mmsi" (decimalOf mmsi)
+-- what every message has: talker, report and channel of its line, type, repeat and MMSI
+abbrev pub head : ℕ → Sentence → ℕ → ℕ → ℕ → List ℕ
+head line s type repeat mmsi =
+    opened line
+    ++ member "talker" (talkerText (s .«talker_id»))
+    ++ member "report" (reportText (s .«report_type»))
+    ++ member "channel" (channelText (s .channel))
+    ++ member "type" (decimalOf type)
+    ++ member "repeat" (decimalOf repeat)
+    ++ member "mmsi" (decimalOf mmsi)
 
 -- types 1 to 3; the radio status is a number of its own 19 bits
-abbrev pub positionObject : ℕ → PositionReport → List ℕ → List ℕ
-positionObject line p bits =
-    head line (p .«message_type») (p .«repeat_indicator») (p .mmsi)
+abbrev pub positionObject : ℕ → Sentence → PositionReport → List ℕ → List ℕ
+positionObject line s p bits =
+    head line s (p .«message_type») (p .«repeat_indicator») (p .mmsi)
     ++ member "status" (statusText (p .«navigation_status»))
+    ++ member "status_text" (statusName (statusNumber (p .«navigation_status»)))
     ++ member "turn" (turnText (p .«rate_of_turn»))
+    ++ member "turn_rate" (rateText (p .rate))
     ++ member "speed" (readingText (p .«speed_over_ground») (tenthsIn (p .«speed_raw»)))
     ++ member "speed_raw" (decimalOf (p .«speed_raw»))
     ++ member "accuracy" (truth (isDgps (p .«position_accuracy»)))
@@ -143,6 +203,7 @@ partNumber (MessagePart.Unknown n) = n
 abbrev pub craftMembers : PartB → Texts → List ℕ
 craftMembers b t =
     member "shiptype" (decimalOf (b .«ship_type»))
+    ++ member "shiptype_text" (shipName (b .«ship_type»))
     ++ member "vendorid" (spelled (t .«vendor_id»))
     ++ member "model" (decimalOf (b .«unit_model_code»))
     ++ member "serial" (decimalOf (b .«serial_number»))
@@ -160,11 +221,11 @@ partMembers (MessagePart.PartB b) t = craftMembers b t
 partMembers (MessagePart.Unknown n) t = []
 
 -- type 24, with its texts
-abbrev pub staticObject : ℕ → StaticDataReport → Texts → List ℕ
-staticObject line s t =
-    head line (s .«message_type») (s .«repeat_indicator») (s .mmsi)
-    ++ member "partno" (decimalOf (partNumber (s .«message_part»)))
-    ++ partMembers (s .«message_part») t
+abbrev pub staticObject : ℕ → Sentence → StaticDataReport → Texts → List ℕ
+staticObject line s r t =
+    head line s (r .«message_type») (r .«repeat_indicator») (r .mmsi)
+    ++ member "partno" (decimalOf (partNumber (r .«message_part»)))
+    ++ partMembers (r .«message_part») t
     ++ ascii "}\n"
 
 -- type 15, "at most two stations, each with at most two messages": the stations that are asked, of the two places
@@ -196,9 +257,9 @@ abbrev pub offsetAt : Interrogation → ℕ → ℕ → List ℕ
 offsetAt i station message = tellAt (λ (m : asked.Message). offsetText (m .«slot_offset»)) (askedOf (stationsOf i) station) message
 
 -- type 15: the members of both stations and of all four messages are always there
-abbrev pub askedObject : ℕ → Interrogation → List ℕ
-askedObject line i =
-    head line (i .«message_type») (i .«repeat_indicator») (i .mmsi)
+abbrev pub askedObject : ℕ → Sentence → Interrogation → List ℕ
+askedObject line s i =
+    head line s (i .«message_type») (i .«repeat_indicator») (i .mmsi)
     ++ member "mmsi1" (mmsiAt i 0)
     ++ member "type1_1" (typeAt i 0 0)
     ++ member "offset1_1" (offsetAt i 0 0)
@@ -212,15 +273,15 @@ askedObject line i =
     ++ ascii "}\n"
 
 -- by type; a message that tells nothing, which no call gives (proofs/Told), has the number of the line alone
-abbrev pub contentObject : AisMessage → ℕ → Message → List ℕ → List ℕ
-contentObject AisMessage.Nothing line m bits = opened line ++ ascii "}\n"
-contentObject (AisMessage.PositionReport p) line m bits = positionObject line p bits
-contentObject (AisMessage.StaticDataReport s) line m bits = staticObject line s (m .texts)
-contentObject AisMessage.Interrogation line m bits = askedObject line (m .interrogation)
+abbrev pub contentObject : AisMessage → ℕ → Sentence → Message → List ℕ → List ℕ
+contentObject AisMessage.Nothing line s m bits = opened line ++ ascii "}\n"
+contentObject (AisMessage.PositionReport p) line s m bits = positionObject line s p bits
+contentObject (AisMessage.StaticDataReport r) line s m bits = staticObject line s r (m .texts)
+contentObject AisMessage.Interrogation line s m bits = askedObject line s (m .interrogation)
 
 -- a message of any type
-unfoldable pub messageObject : ℕ → Message → List ℕ → List ℕ
-messageObject line m bits = contentObject (m .content) line m bits
+unfoldable pub messageObject : ℕ → Sentence → Message → List ℕ → List ℕ
+messageObject line s m bits = contentObject (m .content) line s m bits
 
 -- ---- refused lines
 -- numbers with commas (44) between them
@@ -233,40 +294,40 @@ listed (v ∷ w ∷ values) = decimalOf v ++ 44 ∷ listed (w ∷ values)
 abbrev pub array : List ℕ → List ℕ
 array values = ascii "[" ++ listed values ++ ascii "]"
 
--- a reason for each of document 01's numbers, from 1 on, after its column 'When'
-abbrev pub reasons : List (List ℕ)
-reasons =
-    ascii "line over 1024 bytes"
-    ∷ ascii "line breaks the line rules"
-    ∷ ascii "checksum differs"
-    ∷ ascii "message number differs from the one before"
-    ∷ ascii "fragment number is not the next one"
-    ∷ ascii "payload over 384 bytes"
-    ∷ ascii "fill over 5, or fill with empty data"
-    ∷ ascii "byte cannot be unarmored"
-    ∷ ascii "message ends inside a needed field"
-    ∷ ascii "message type is not decoded"
-    ∷ ascii "message type is unknown"
-    ∷ ascii "a lent output is too small"
-    ∷ ascii "request outside the writer's limits"
-    ∷ []
+-- the reason of a number, or that the line is another kind's
+abbrev pub reasonOf : ℕ → Bool → List ℕ
+reasonOf n other = pick other (ascii "NMEA sentence of another kind") (getD ([] ∷ spelt reasons) n [])
 
--- the reason of a number
-abbrev pub reasonOf : ℕ → List ℕ
-reasonOf n = getD ([] ∷ reasons) n []
+-- refusal 3 returns the "number in the line, number found"
+abbrev pub sumMembers : ℕ → List ℕ → List ℕ
+sumMembers n values =
+    pick (eqb n 3) (member "checksum" (inQuotes (pairIn (getD values 0 0))) ++ member "computed" (inQuotes (pairIn (getD values 1 0)))) []
 
--- the refusal's number, the values that it also returns, and its reason
-unfoldable pub refusedObject : ℕ → ℕ → List ℕ → List ℕ
-refusedObject line n values =
+-- refusal 10 returns "the type"; the sender, where it is told
+abbrev pub typeMembers : ℕ → List ℕ → Optional → List ℕ
+typeMembers n values sender =
+    pick (eqb n 10) (member "type" (decimalOf (getD values 0 0))) [] ++ pick (eqb (sender .there) 1) (member "mmsi" (decimalOf (sender .value))) []
+
+-- the line's own text, of which at most 100 bytes are shown
+abbrev pub textMembers : List ℕ → Bool → List ℕ
+textMembers text cut = member "text" (quotedIn (take 100 text)) ++ pick cut (member "text_cut" (ascii "true")) []
+
+-- what is told of a refused line beside its number, its refusal's and the values: the sender, whether it is another kind's, its text, and whether there is more
+-- of that
+pub record About : Type 0 where
+  pub sender : Optional
+  pub other : Bool
+  pub text : List ℕ
+  pub cut : Bool
+
+unfoldable pub refusedObject : ℕ → ℕ → List ℕ → About → List ℕ
+refusedObject line n values about =
     ascii "{\"class\":\"ERROR\""
     ++ member "line" (decimalOf line)
     ++ member "refusal" (decimalOf n)
     ++ member "values" (array values)
-    ++ member "message" (ascii "\"" ++ reasonOf n ++ ascii "\"")
+    ++ sumMembers n values
+    ++ typeMembers n values (about .sender)
+    ++ member "message" (inQuotes (reasonOf n (about .other)))
+    ++ textMembers (about .text) (about .cut)
     ++ ascii "}\n"
-
--- ---- the line: a complete message, nothing while more is to come, or a refusal
-abbrev pub saidOf : ℕ → Told Progress → Message → List ℕ → List ℕ
-saidOf line (taken complete) m bits = messageObject line m bits
-saidOf line (taken unfinished) m bits = []
-saidOf line (refused n values) m bits = refusedObject line n values

@@ -1,6 +1,6 @@
 -- `face_json::put_message` meets its contract. Assumes nothing.
 use mathlib.Core.Path.{sym, _∙_}
-use Rattle.face_json.specs.Line.{messageText}
+use Rattle.face_json.specs.Line.{messageLine}
 use borrow.Author.Tests.{ne-eqb}
 use borrow.Author.Needs.{needs}
 use Rattle.face_json.proofs.put_message.Statement.{statement}
@@ -12,8 +12,8 @@ number-at-requires c κs = search needs
 put-position-requires : tie.Need-put-position-requires
 put-position-requires c κs = search needs
 
-put-static-requires : tie.Need-put-static-requires
-put-static-requires c κs = search needs
+put-part-requires : tie.Need-put-part-requires
+put-part-requires c κs = search needs
 
 put-asked-requires : tie.Need-put-asked-requires
 put-asked-requires c κs = search needs
@@ -25,7 +25,7 @@ same-length : tie.Need-same-length
 same-length c = search needs
 
 returns : tie.Need-returns
-unfolding messageText
+unfolding messageLine
 returns c =
     let by = c .before .before .before .before in
     let read = by .before in
@@ -35,17 +35,17 @@ same-length-2 : tie.Need-same-length-2
 same-length-2 c = search needs
 
 returns-2 : tie.Need-returns-2
-unfolding messageText
+unfolding messageLine
 returns-2 c =
     let by = c .before .before .before .before in
     let read = by .before in
-    rw (sym (read .number-at .ensures) ∙ by .match .keys2) (c .before .before .put-static .ensures)
+    rw (sym (read .number-at .ensures) ∙ by .match .keys2) (c .before .before .put-part .ensures)
 
 same-length-3 : tie.Need-same-length-3
 same-length-3 c = search needs
 
 returns-3 : tie.Need-returns-3
-unfolding messageText
+unfolding messageLine
 returns-3 c =
     let by = c .before .before .before .before in
     let read = by .before in
@@ -55,7 +55,7 @@ same-length-4 : tie.Need-same-length-4
 same-length-4 c = search needs
 
 returns-4 : tie.Need-returns-4
-unfolding messageText
+unfolding messageLine
 returns-4 c =
     let by = c .before .before .before .before in
     let read = by .before in
@@ -68,7 +68,7 @@ put-message-spec =
     (tie.spec
     number-at-requires
     put-position-requires
-    put-static-requires
+    put-part-requires
     put-asked-requires
     put-nothing-requires
     same-length

@@ -1,5 +1,6 @@
 -- `face_json::put_refused` meets its contract. Assumes nothing.
 use Rattle.face_rows.specs.Code.{rowsIn}
+use Rattle.face_json.specs.Line.{refusedLine}
 use borrow.Author.Needs.{needs}
 use Rattle.face_json.proofs.put_refused.Statement.{statement}
 use Rattle.face_json.proofs.put_refused.Tie as tie
@@ -17,7 +18,7 @@ same-length : tie.Need-same-length
 same-length c = search needs
 
 returns : tie.Need-returns
-unfolding rowsIn
+unfolding rowsIn refusedLine
 returns c = c .before .before .put-rows .ensures
 
 pub put-refused-spec : {M : Type 1} → statement M

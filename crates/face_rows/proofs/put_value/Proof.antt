@@ -39,6 +39,21 @@ cast-put-word c = search needs
 put-word-requires : tie.Need-put-word-requires
 put-word-requires c κs = search needs
 
+cast-t34 : tie.Need-cast-t34
+cast-t34 c = search needs
+
+slice-aggregate-put-quoted : tie.Need-slice-aggregate-put-quoted
+slice-aggregate-put-quoted c = search needs
+
+put-quoted-requires-2 : tie.Need-put-quoted-requires-2
+put-quoted-requires-2 c κs = search needs
+
+put-pair-requires : tie.Need-put-pair-requires
+put-pair-requires c κs = search needs
+
+put-rate-requires : tie.Need-put-rate-requires
+put-rate-requires c κs = search needs
+
 same-length : tie.Need-same-length
 same-length c = search needs
 
@@ -104,11 +119,40 @@ returns-7 c =
     let read = by .before in
     rw (by .match .keys7, sym (read .number-at .ensures)) (c .before .before .put-word .ensures)
 
+same-length-8 : tie.Need-same-length-8
+same-length-8 c = search needs
+
 returns-8 : tie.Need-returns-8
 returns-8 c =
-    let r = c .match .rest in
+    let by = c .before .before .before .before .before in
+    let read = by .before in
+    rw (by .match .keys8, sym (read .number-at .ensures)) (c .before .before .put-quoted2 .ensures)
+
+same-length-9 : tie.Need-same-length-9
+same-length-9 c = search needs
+
+returns-9 : tie.Need-returns-9
+returns-9 c =
+    let by = c .before .before .before .before in
+    let read = by .before in
+    rw (by .match .keys9, sym (read .number-at .ensures)) (c .before .before .put-pair .ensures)
+
+same-length-10 : tie.Need-same-length-10
+same-length-10 c = search needs
+
+returns-10 : tie.Need-returns-10
+returns-10 c =
+    let by = c .before .before .before .before in
+    let read = by .before in
+    rw (by .match .keys10, sym (read .number-at .ensures)) (c .before .before .put-rate .ensures)
+
+returns-11 : tie.Need-returns-11
+returns-11 c =
+    let last = c .match .rest in
+    let r = last .0 .0 .0 in
     rw (ne-eqb _ _ (r .0 .0 .0 .0 .0 .0 .1), ne-eqb _ _ (r .0 .0 .0 .0 .0 .1), ne-eqb _ _ (r .0 .0 .0 .0 .1), ne-eqb _ _ (r .0 .0 .0 .1))
-    (rw (ne-eqb _ _ (r .0 .0 .1), ne-eqb _ _ (r .0 .1), ne-eqb _ _ (r .1)) (sym (put-nothing _)))
+    (rw (ne-eqb _ _ (r .0 .0 .1), ne-eqb _ _ (r .0 .1), ne-eqb _ _ (r .1), ne-eqb _ _ (last .0 .0 .1), ne-eqb _ _ (last .0 .1), ne-eqb _ _ (last .1))
+    (sym (put-nothing _)))
 
 pub put-value-spec : {M : Type 1} → statement M
 put-value-spec =
@@ -125,6 +169,11 @@ put-value-spec =
     put-shown-requires
     cast-put-word
     put-word-requires
+    cast-t34
+    slice-aggregate-put-quoted
+    put-quoted-requires-2
+    put-pair-requires
+    put-rate-requires
     same-length
     returns
     same-length-2
@@ -139,4 +188,10 @@ put-value-spec =
     returns-6
     same-length-7
     returns-7
-    returns-8)
+    same-length-8
+    returns-8
+    same-length-9
+    returns-9
+    same-length-10
+    returns-10
+    returns-11)

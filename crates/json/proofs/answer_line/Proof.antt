@@ -24,16 +24,18 @@ tell-requires c κs = search needs
 same-length : tie.Need-same-length
 same-length c = search needs
 
+same-length-2 : tie.Need-same-length-2
+same-length-2 c = search needs
+
 returns : tie.Need-returns
 returns c =
-    let told = c .before .before .before in
-    let counted = told .before .before .before in
+    let counted = c .before .before .before .before .before .before .before .before .before in
     let cut = counted .before in
-    let s = cut .before .before .before .args in
+    let s = cut .before .before .before .before .args in
     let l = s .line .now in
     let n = counted .following .result in (
-      told .tell .ensures
-          ∙ ap (λ (m : List ℕ). leftOf (s .s .state) n m (s .s .used) (s .out .now))
+      c .before .before .before .before .before .tell .ensures
+          ∙ ap (λ (m : List ℕ). leftOf (s .show) (s .s .state) n m (s .s .used) (s .out .now) (s .tally .now))
           (ap (λ (i : ℕ). take i l) (cut .up-to .ensures .0) ∙ take-min (s .n) l),
       counted .following .ensures,
     )
@@ -47,4 +49,5 @@ answer-line-spec =
     slice-aggregate-tell
     tell-requires
     same-length
+    same-length-2
     returns)

@@ -1,9 +1,9 @@
 -- `json::tell` meets its contract. Assumes nothing.
 use mathlib.Core.Path.{ap, _∙_}
-use Rattle.text_out.specs.Text.{Text, text}
+use Rattle.text_out.specs.Text.{text}
 use Rattle.json.specs.Answer.{readOf}
+use Rattle.json.proofs.Calls.{laidBy, laid-left, left-same}
 use borrow.Author.Needs.{needs}
-use Rattle.json.proofs.Calls.{laidBy, laid-left}
 use Rattle.json.proofs.tell.Statement.{statement}
 use Rattle.json.proofs.tell.Tie as tie
 
@@ -25,15 +25,19 @@ put-answer-requires c κs = search needs
 same-length : tie.Need-same-length
 same-length c = search needs
 
+same-length-2 : tie.Need-same-length-2
+same-length-2 c = search needs
+
 returns : tie.Need-returns
 unfolding readOf
 returns c =
-    let called = c .before .before .before .before .before .before .before .before in
-    let s = called .before .before .before .before .before .args in
+    let called = c .before .before .before .before .before .before .before .before .before .before .before in
+    let s = called .before .before .before .before .before .before .args in
     let before = text (s .at) (s .out .now) in
-    ap (λ (t : Text). record { state = called .call .result .state; out = t }) (c .before .before .before .put-answer .ensures)
-    ∙ ap (laidBy (s .number) before) (called .call .ensures)
-    ∙ laid-left (s .state) (s .number) (s .line .now) before
+    let told = c .before .before .before .before .before .put-answer .ensures in
+    left-same (called .call .result .state) (told .0) (told .1)
+    ∙ ap (laidBy (s .show) (s .number) (s .state) (s .line .now) before (s .tally .now)) (called .call .ensures)
+    ∙ laid-left (s .show) (s .state) (s .number) (s .line .now) before (s .tally .now)
 
 pub tell-spec : {M : Type 1} → statement M
 tell-spec =
@@ -45,4 +49,5 @@ tell-spec =
     slice-aggregate-put-answer
     put-answer-requires
     same-length
+    same-length-2
     returns)
