@@ -2,6 +2,7 @@
 use arguments::Word;
 use decoding::Asked;
 use json::Kept;
+use json::Show;
 use libc::STDIN_FILENO;
 use libc::STDOUT_FILENO;
 use stream::Came;
@@ -22,10 +23,11 @@ enum Way {
     Failed,
 }
 
-// How far the input was taken, what is kept of its lines, and how far the run is.
+// How far the input was taken, what is kept of its lines, what is written of refused ones, and how far the run is.
 struct Run {
     input: Input,
     kept: Kept,
+    show: Show,
     way: Way,
 }
 
@@ -40,88 +42,79 @@ fn written(kept: Kept) -> Kept {
 }
 
 // A run that goes on.
-fn going(input: Input, kept: Kept) -> Run {
+fn going(input: Input, kept: Kept, show: Show) -> Run {
     Run {
         input: input,
         kept: kept,
+        show: show,
         way: Way::On,
     }
 }
 
 // A run that a call stopped: which one, is said.
-fn failed(input: Input, kept: Kept, doing: &[u8], name: &[u8]) -> Run {
+fn failed(input: Input, kept: Kept, show: Show, doing: &[u8], name: &[u8]) -> Run {
     stream::say_failure(b"decode", kept.number, doing, name);
     Run {
         input: input,
         kept: kept,
+        show: show,
         way: Way::Failed,
     }
 }
 
 // Writes the output buffer where it is nearly full.
-fn emptied(input: Input, kept: Kept, out: &[u8]) -> Run {
+fn emptied(input: Input, kept: Kept, show: Show, out: &[u8]) -> Run {
     if !stream::is_full(kept.used) {
-        return going(input, kept);
+        return going(input, kept, show);
     }
     if stream::write_out(STDOUT_FILENO, out, kept.used) {
-        return going(input, written(kept));
+        return going(input, written(kept), show);
     }
-    failed(input, kept, b"writing", b"standard output")
+    failed(input, kept, show, b"writing", b"standard output")
 }
 
 // No line ends in the block: what was told is written, and more is read. At the end of the input what is held is a last line.
-fn go_on(
-    input: Input,
-    kept: Kept,
-    from: i32,
-    name: &[u8],
-    block: &mut [u8],
-    line: &[u8],
-    out: &mut [u8],
-) -> Run {
-    let f = stream::read_on(input, from, block, STDOUT_FILENO, out, kept.used);
+fn go_on(s: Run, from: i32, name: &[u8], block: &mut [u8], line: &[u8], out: &mut [u8], tally: &mut [u64]) -> Run {
+    let kept = s.kept;
+    let show = s.show;
+    let f = stream::read_on(s.input, from, block, STDOUT_FILENO, out, kept.used);
     let rest = f.input;
     let came = f.came;
     match came {
-        Came::More => going(rest, written(kept)),
-        Came::End => at_end(rest, written(kept), line, out),
-        Came::Unread => failed(rest, written(kept), b"reading", name),
-        Came::Unwritten => failed(rest, kept, b"writing", b"standard output"),
+        Came::More => going(rest, written(kept), show),
+        Came::End => at_end(rest, written(kept), show, line, out, tally),
+        Came::Unread => failed(rest, written(kept), show, b"reading", name),
+        Came::Unwritten => failed(rest, kept, show, b"writing", b"standard output"),
     }
 }
 
 // The last line of an input.
-fn at_end(input: Input, kept: Kept, line: &[u8], out: &mut [u8]) -> Run {
-    let t = decoding::last_turn(input, kept, line, out);
+fn at_end(input: Input, kept: Kept, show: Show, line: &[u8], out: &mut [u8], tally: &mut [u64]) -> Run {
+    let t = decoding::last_turn(input, kept, show, line, out, tally);
     let rest = t.input;
     let told = t.kept;
     Run {
         input: rest,
         kept: told,
+        show: show,
         way: Way::Ended,
     }
 }
 
 // The next line, answered.
-fn answer_one(
-    s: Run,
-    from: i32,
-    name: &[u8],
-    block: &mut [u8],
-    line: &mut [u8],
-    out: &mut [u8],
-) -> Run {
+fn answer_one(s: Run, from: i32, name: &[u8], block: &mut [u8], line: &mut [u8], out: &mut [u8], tally: &mut [u64]) -> Run {
     let input = s.input;
     let kept = s.kept;
-    let t = decoding::turn(input, kept, block, line, out);
+    let show = s.show;
+    let t = decoding::turn(input, kept, show, block, line, out, tally);
     let rest = t.input;
     let told = t.kept;
     let next = t.next;
     match next {
-        Next::Line(_) => emptied(rest, told, out),
-        Next::TooLong => emptied(rest, told, out),
-        Next::Nothing => go_on(rest, told, from, name, block, line, out),
-        Next::Room => failed(rest, told, b"a line's buffer is too short for", name),
+        Next::Line(_) => emptied(rest, told, show, out),
+        Next::TooLong => emptied(rest, told, show, out),
+        Next::Nothing => go_on(going(rest, told, show), from, name, block, line, out, tally),
+        Next::Room => failed(rest, told, show, b"a line's buffer is too short for", name),
     }
 }
 
@@ -135,18 +128,11 @@ fn is_on(way: Way) -> bool {
 }
 
 // All lines of an input. Nothing says that it ends, so the loop counts its rounds down, from a number that no run uses up.
-fn answer_all(
-    s: Run,
-    from: i32,
-    name: &[u8],
-    block: &mut [u8],
-    line: &mut [u8],
-    out: &mut [u8],
-) -> Run {
+fn answer_all(s: Run, from: i32, name: &[u8], block: &mut [u8], line: &mut [u8], out: &mut [u8], tally: &mut [u64]) -> Run {
     let mut now = s;
     let mut rounds = u64::MAX;
     while rounds > 0 {
-        now = answer_one(now, from, name, block, line, out);
+        now = answer_one(now, from, name, block, line, out, tally);
         let way = now.way;
         if !is_on(way) {
             return now;
@@ -157,11 +143,11 @@ fn answer_all(
 }
 
 // The input that argument i names, if it names one.
-fn answer_argument(s: Run, i: usize, block: &mut [u8], line: &mut [u8], out: &mut [u8]) -> Run {
+fn answer_argument(s: Run, i: usize, block: &mut [u8], line: &mut [u8], out: &mut [u8], tally: &mut [u64]) -> Run {
     let mut name = io::buffer();
     let n = os::arg(i, &mut name);
     match arguments::word_of(&name[..n]) {
-        Word::Input => answer_input(s, &name[..n], block, line, out),
+        Word::Input => answer_input(s, &name[..n], block, line, out, tally),
         Word::Help => s,
         Word::Status => s,
         Word::Option => s,
@@ -169,13 +155,14 @@ fn answer_argument(s: Run, i: usize, block: &mut [u8], line: &mut [u8], out: &mu
 }
 
 // The input of a name: its lines, from where the one before ended.
-fn answer_input(s: Run, name: &[u8], block: &mut [u8], line: &mut [u8], out: &mut [u8]) -> Run {
+fn answer_input(s: Run, name: &[u8], block: &mut [u8], line: &mut [u8], out: &mut [u8], tally: &mut [u64]) -> Run {
     let from = arguments::open(name);
     let kept = s.kept;
+    let show = s.show;
     if from < 0 {
-        return failed(s.input, kept, b"opening", name);
+        return failed(s.input, kept, show, b"opening", name);
     }
-    let end = answer_all(going(stream::start(), kept), from, name, block, line, out);
+    let end = answer_all(going(stream::start(), kept, show), from, name, block, line, out, tally);
     libc::close(from);
     end
 }
@@ -190,17 +177,11 @@ fn is_failed(way: Way) -> bool {
 }
 
 // The inputs that the arguments name, in turn.
-fn answer_arguments(
-    s: Run,
-    count: usize,
-    block: &mut [u8],
-    line: &mut [u8],
-    out: &mut [u8],
-) -> Run {
+fn answer_arguments(s: Run, count: usize, block: &mut [u8], line: &mut [u8], out: &mut [u8], tally: &mut [u64]) -> Run {
     let mut now = s;
     let mut i = 1;
     while i < count {
-        now = answer_argument(now, i, block, line, out);
+        now = answer_argument(now, i, block, line, out, tally);
         let way = now.way;
         if is_failed(way) {
             return now;
@@ -241,34 +222,31 @@ fn are_readable(count: usize) -> bool {
 }
 
 // The inputs that are named, or standard input where none is.
-fn answer_inputs(
-    s: Run,
-    named: bool,
-    count: usize,
-    block: &mut [u8],
-    line: &mut [u8],
-    out: &mut [u8],
-) -> Run {
+fn answer_inputs(s: Run, named: bool, count: usize, block: &mut [u8], line: &mut [u8], out: &mut [u8], tally: &mut [u64]) -> Run {
     if named {
-        return answer_arguments(s, count, block, line, out);
+        return answer_arguments(s, count, block, line, out, tally);
     }
-    answer_all(s, STDIN_FILENO, b"standard input", block, line, out)
+    answer_all(s, STDIN_FILENO, b"standard input", block, line, out, tally)
 }
 
-// All inputs, and what is left in the output buffer. Answers the status: 0 where all went well, 1 where a call failed.
+// All inputs, and what is said at their end. Answers the status: 0 where all went well, 1 where a call failed.
 fn answer_asked(asked: Asked, count: usize) -> u8 {
     let mut out = io::large_buffer();
     let mut block = io::large_buffer();
     let mut line = [0u8; 1024];
+    let mut tally = [0u64; 256];
     let fresh = reassembly::fresh();
     let kept = Kept {
         state: fresh,
         number: 0,
         used: 0,
     };
-    let begun = going(stream::start(), kept);
-    let end = answer_inputs(begun, asked.inputs, count, &mut block, &mut line, &mut out);
-    finish(end, &out)
+    let show = decoding::show_of(asked.quiet);
+    let begun = going(stream::start(), kept, show);
+    let end = answer_inputs(begun, asked.inputs, count, &mut block, &mut line, &mut out, &mut tally);
+    let status = finish(end, &out);
+    say_end(end, asked.summary, &tally);
+    status
 }
 
 // What was told and is not written yet.
@@ -285,14 +263,24 @@ fn finish(end: Run, out: &[u8]) -> u8 {
     1
 }
 
+// What is said on standard error at the end: a message that is unfinished, and counts where they are asked.
+fn say_end(end: Run, counts: bool, tally: &[u64]) {
+    let mut words = io::buffer();
+    let kept = end.kept;
+    let state = kept.state;
+    let a = json::put_unfinished(&mut words, 0, state);
+    if counts {
+        let b = summary::put_summary(&mut words, a, tally);
+        stream::say(&words, b);
+        return;
+    }
+    stream::say(&words, a);
+}
+
 // What is asked, done. Answers the status.
 fn answer(asked: Asked, count: usize) -> u8 {
     if asked.help {
-        return if stream::write_out(STDOUT_FILENO, &USAGE, USAGE.len()) {
-            0
-        } else {
-            1
-        };
+        return help();
     }
     if asked.unknown > 0 {
         arguments::say_unknown(b"decode", asked.unknown);
@@ -302,6 +290,15 @@ fn answer(asked: Asked, count: usize) -> u8 {
         return 2;
     }
     answer_asked(asked, count)
+}
+
+// The usage. Answers the status.
+fn help() -> u8 {
+    if stream::write_out(STDOUT_FILENO, &USAGE, USAGE.len()) {
+        0
+    } else {
+        1
+    }
 }
 
 fn main() {

@@ -9,41 +9,42 @@ use Rattle.stream.specs.declared.Next.{Next}
 use Rattle.stream.specs.declared.Taken.{Taken}
 use Rattle.stream.specs.Next.{Given, takenWith, inBlock, atEnd}
 use Rattle.json.specs.declared.Kept.{Kept}
+use Rattle.json.specs.declared.Show.{Show}
 use Rattle.json.specs.Answer.{Left, leftWith, leftOf, leftLong}
 use Rattle.decoding.specs.declared.Turned.{Turned}
 use Rattle.decoding.specs.Turn.{Answered, answeredIn, following, answeredOf, turnBy, turnIn, turnOf, lastBy, lastIn, lastOf}
 
-module _ (k r : Kept) (line out after : List ℕ) where
+module _ (show : Show) (k r : Kept) (line out tally after counted : List ℕ) where
   -- a number and what is left of it
   abbrev with-number : (ℕ → Left) → ℕ → Answered
   with-number left n = record { number = n; left = left n }
 
-  told : (left : ℕ → Left) → leftWith (r .state) (r .used) after ≡ left (r .number) → r .number ≡ following (k .number)
-      → answeredIn r after ≡ with-number left (following (k .number))
+  told : (left : ℕ → Left) → leftWith (r .state) (r .used) after counted ≡ left (r .number) → r .number ≡ following (k .number)
+      → answeredIn r after counted ≡ with-number left (following (k .number))
   told left e n = ap (λ (l : Left). record { number = r .number; left = l }) e ∙ ap (with-number left) n
 
   pub line-told : {next : Next} (n : ℕ) → next ≡ Next.Line n
-      → leftWith (r .state) (r .used) after ≡ leftOf (k .state) (r .number) (take n line) (k .used) out → r .number ≡ following (k .number)
-      → answeredIn r after ≡ answeredOf k next line out
-  line-told n is e f = rw is (told (λ (m : ℕ). leftOf (k .state) m (take n line) (k .used) out) e f)
+      → leftWith (r .state) (r .used) after counted ≡ leftOf show (k .state) (r .number) (take n line) (k .used) out tally → r .number ≡ following (k .number)
+      → answeredIn r after counted ≡ answeredOf show k next line out tally
+  line-told n is e f = rw is (told (λ (m : ℕ). leftOf show (k .state) m (take n line) (k .used) out tally) e f)
 
   pub long-told : {next : Next} → next ≡ Next.TooLong
-      → leftWith (r .state) (r .used) after ≡ leftLong (k .state) (r .number) (k .used) out → r .number ≡ following (k .number)
-      → answeredIn r after ≡ answeredOf k next line out
-  long-told is e f = rw is (told (λ (m : ℕ). leftLong (k .state) m (k .used) out) e f)
+      → leftWith (r .state) (r .used) after counted ≡ leftLong show (k .state) (r .number) line (k .used) out tally → r .number ≡ following (k .number)
+      → answeredIn r after counted ≡ answeredOf show k next line out tally
+  long-told is e f = rw is (told (λ (m : ℕ). leftLong show (k .state) m line (k .used) out tally) e f)
 
 -- what was taken out of the block, and what it is answered with
-pub turned : (input : Input) (k : Kept) (block buf out : List ℕ) (t : Taken) (line : List ℕ) (r : Kept) (after : List ℕ)
-    → takenWith t line ≡ inBlock 1024 true input block buf → answeredIn r after ≡ answeredOf k (t .next) line out
-    → turnIn (record { input = t .input; kept = r; next = t .next }) line after ≡ turnOf input k block buf out
+pub turned : (show : Show) (input : Input) (k : Kept) (block buf out tally : List ℕ) (t : Taken) (line : List ℕ) (r : Kept) (after counted : List ℕ)
+    → takenWith t line ≡ inBlock 1024 true input block buf → answeredIn r after counted ≡ answeredOf show k (t .next) line out tally
+    → turnIn (record { input = t .input; kept = r; next = t .next }) line after counted ≡ turnOf show input k block buf out tally
 unfolding turnOf
-turned input k block buf out t line r after e f =
-    ap (λ (a : Answered). record { input = t .input; next = t .next; answered = a; line = line }) f ∙ ap (turnBy k out) e
+turned show input k block buf out tally t line r after counted e f =
+    ap (λ (a : Answered). record { input = t .input; next = t .next; answered = a; line = line }) f ∙ ap (turnBy show k out tally) e
 
 -- the same at the end of the input
-pub last-turned : (input : Input) (k : Kept) (line out : List ℕ) (t : Taken) (r : Kept) (after : List ℕ)
-    → t ≡ atEnd 1024 true input line → answeredIn r after ≡ answeredOf k (t .next) line out
-    → lastIn (record { input = t .input; kept = r; next = t .next }) after ≡ lastOf input k line out
+pub last-turned : (show : Show) (input : Input) (k : Kept) (line out tally : List ℕ) (t : Taken) (r : Kept) (after counted : List ℕ)
+    → t ≡ atEnd 1024 true input line → answeredIn r after counted ≡ answeredOf show k (t .next) line out tally
+    → lastIn (record { input = t .input; kept = r; next = t .next }) after counted ≡ lastOf show input k line out tally
 unfolding lastOf
-last-turned input k line out t r after e f =
-    ap (λ (a : Answered). record { input = t .input; next = t .next; answered = a }) f ∙ ap (lastBy k line out) e
+last-turned show input k line out tally t r after counted e f =
+    ap (λ (a : Answered). record { input = t .input; next = t .next; answered = a }) f ∙ ap (lastBy show k line out tally) e

@@ -8,6 +8,7 @@ use Rattle.text_in.specs.Same.{sameAs}
 use Rattle.text_out.specs.Text.{ascii}
 use Rattle.arguments.specs.declared.Word.{Word}
 use Rattle.arguments.specs.Words.{wordOf}
+use Rattle.json.specs.declared.Show.{Show}
 use Rattle.decoding.specs.declared.Asked.{Asked}
 
 abbrev pub asks : Bool → Bool → Bool → Bool → Bool → ℕ → Asked
@@ -34,3 +35,7 @@ askedAs Word.Option a word i = optionBy a word i
 
 unfoldable pub askedBy : Asked → List ℕ → ℕ → Asked
 askedBy a word i = askedAs (wordOf word) a word i
+
+-- what is written of refused lines
+abbrev pub showOf : Bool → Show
+showOf quiet = pick quiet Show.Quiet Show.All

@@ -8,28 +8,30 @@ use Rattle.stream.specs.declared.Next.{Next}
 use Rattle.stream.specs.declared.Taken.{Taken}
 use Rattle.stream.specs.Next.{Given, inBlock, atEnd}
 use Rattle.json.specs.declared.Kept.{Kept}
+use Rattle.json.specs.declared.Show.{Show}
 use Rattle.json.specs.Answer.{Left, leftWith, leftOf, leftLong}
 use Rattle.decoding.specs.declared.Turned.{Turned}
 
--- the number of lines so far, and the record and the output after them
+-- the number of lines so far, and the record, the output and the counts after them
 pub record Answered : Type 0 where
   pub number : ℕ
   pub left : Left
 
-abbrev pub answeredIn : Kept → List ℕ → Answered
-answeredIn k out = record { number = k .number; left = leftWith (k .state) (k .used) out }
+abbrev pub answeredIn : Kept → List ℕ → List ℕ → Answered
+answeredIn k out tally = record { number = k .number; left = leftWith (k .state) (k .used) out tally }
 
 -- one line more is counted; no input has so many that a u64 could not tell it
 abbrev pub following : ℕ → ℕ
 following n = min (n + 1) (2 ^ 64 - 1)
 
 -- what came is answered: a line by what reading it gives, one that is too long by refusal 1; where nothing came, nothing changes
-abbrev pub answeredOf : Kept → Next → List ℕ → List ℕ → Answered
-answeredOf k (Next.Line n) line out =
-    record { number = following (k .number); left = leftOf (k .state) (following (k .number)) (take n line) (k .used) out }
-answeredOf k Next.TooLong line out = record { number = following (k .number); left = leftLong (k .state) (following (k .number)) (k .used) out }
-answeredOf k Next.Nothing line out = answeredIn k out
-answeredOf k Next.Room line out = answeredIn k out
+abbrev pub answeredOf : Show → Kept → Next → List ℕ → List ℕ → List ℕ → Answered
+answeredOf show k (Next.Line n) line out tally =
+    record { number = following (k .number); left = leftOf show (k .state) (following (k .number)) (take n line) (k .used) out tally }
+answeredOf show k Next.TooLong line out tally =
+    record { number = following (k .number); left = leftLong show (k .state) (following (k .number)) line (k .used) out tally }
+answeredOf show k Next.Nothing line out tally = answeredIn k out tally
+answeredOf show k Next.Room line out tally = answeredIn k out tally
 
 -- a turn: how far the input was taken, what came, the answer, and the line's buffer
 pub record Turns : Type 0 where
@@ -38,21 +40,21 @@ pub record Turns : Type 0 where
   pub answered : Answered
   pub line : List ℕ
 
-abbrev pub turnIn : Turned → List ℕ → List ℕ → Turns
-turnIn t line out = record { input = t .input; next = t .next; answered = answeredIn (t .kept) out; line = line }
+abbrev pub turnIn : Turned → List ℕ → List ℕ → List ℕ → Turns
+turnIn t line out tally = record { input = t .input; next = t .next; answered = answeredIn (t .kept) out tally; line = line }
 
-abbrev pub turnBy : Kept → List ℕ → Given → Turns
-turnBy k out g =
+abbrev pub turnBy : Show → Kept → List ℕ → List ℕ → Given → Turns
+turnBy show k out tally g =
     record {
       input = g .taken .input;
       next = g .taken .next;
-      answered = answeredOf k (g .taken .next) (g .line) out;
+      answered = answeredOf show k (g .taken .next) (g .line) out tally;
       line = g .line;
     }
 
 -- the next line that ends in the block, of at most 1,024 bytes without the one CR that is removed
-unfoldable pub turnOf : Input → Kept → List ℕ → List ℕ → List ℕ → Turns
-turnOf input k block line out = turnBy k out (inBlock 1024 true input block line)
+unfoldable pub turnOf : Show → Input → Kept → List ℕ → List ℕ → List ℕ → List ℕ → Turns
+turnOf show input k block line out tally = turnBy show k out tally (inBlock 1024 true input block line)
 
 -- at the end of the input
 pub record Lasts : Type 0 where
@@ -60,11 +62,11 @@ pub record Lasts : Type 0 where
   pub next : Next
   pub answered : Answered
 
-abbrev pub lastIn : Turned → List ℕ → Lasts
-lastIn t out = record { input = t .input; next = t .next; answered = answeredIn (t .kept) out }
+abbrev pub lastIn : Turned → List ℕ → List ℕ → Lasts
+lastIn t out tally = record { input = t .input; next = t .next; answered = answeredIn (t .kept) out tally }
 
-abbrev pub lastBy : Kept → List ℕ → List ℕ → Taken → Lasts
-lastBy k line out t = record { input = t .input; next = t .next; answered = answeredOf k (t .next) line out }
+abbrev pub lastBy : Show → Kept → List ℕ → List ℕ → List ℕ → Taken → Lasts
+lastBy show k line out tally t = record { input = t .input; next = t .next; answered = answeredOf show k (t .next) line out tally }
 
-unfoldable pub lastOf : Input → Kept → List ℕ → List ℕ → Lasts
-lastOf input k line out = lastBy k line out (atEnd 1024 true input line)
+unfoldable pub lastOf : Show → Input → Kept → List ℕ → List ℕ → List ℕ → Lasts
+lastOf show input k line out tally = lastBy show k line out tally (atEnd 1024 true input line)

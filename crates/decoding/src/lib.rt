@@ -2,11 +2,12 @@
 // and what the words of its command line ask.
 use arguments::Word;
 use json::Kept;
+use json::Show;
 use stream::Input;
 use stream::Next;
 ghost use mathlib.Core.Path.{_≡_};
 ghost use Rattle.decoding.specs.Turn.{answeredOf, answeredIn, turnOf, turnIn, lastOf, lastIn};
-ghost use Rattle.decoding.specs.Asked.{askedNothing, askedBy, optionBy};
+ghost use Rattle.decoding.specs.Asked.{askedNothing, askedBy, optionBy, showOf};
 
 // Document 01: "line over 1,024 bytes" is refused. A CR before the LF is not one of them.
 const MOST: u16 = 1024;
@@ -19,41 +20,43 @@ pub struct Turned {
 }
 
 // The next line that ends in the block, answered.
-pub fn turn(input: Input, kept: Kept, block: &[u8], line: &mut [u8], out: &mut [u8]) -> Turned
-    ensures { λ r. ⌜ turnIn r (now (line .exit)) (now (out .exit))
-        ≡ turnOf input kept (now (block .entry)) (now (line .entry)) (now (out .entry)) ⌝ }
+pub fn turn(input: Input, kept: Kept, show: Show, block: &[u8], line: &mut [u8], out: &mut [u8], tally: &mut [u64]) -> Turned
+    ensures { λ r. ⌜ turnIn r (now (line .exit)) (now (out .exit)) (now (tally .exit))
+        ≡ turnOf show input kept (now (block .entry)) (now (line .entry)) (now (out .entry)) (now (tally .entry)) ⌝ }
 {
     let t = stream::next_line(input, MOST, true, block, line);
     let rest = t.input;
     let next = t.next;
     Turned {
         input: rest,
-        kept: answer_next(kept, next, line, out),
+        kept: answer_next(kept, next, show, line, out, tally),
         next: next,
     }
 }
 
 // At the end of the input: bytes that are held are a last line, answered.
-pub fn last_turn(input: Input, kept: Kept, line: &[u8], out: &mut [u8]) -> Turned
-    ensures { λ r. ⌜ lastIn r (now (out .exit)) ≡ lastOf input kept (now (line .entry)) (now (out .entry)) ⌝ }
+pub fn last_turn(input: Input, kept: Kept, show: Show, line: &[u8], out: &mut [u8], tally: &mut [u64]) -> Turned
+    ensures { λ r. ⌜ lastIn r (now (out .exit)) (now (tally .exit))
+        ≡ lastOf show input kept (now (line .entry)) (now (out .entry)) (now (tally .entry)) ⌝ }
 {
     let t = stream::last_line(input, MOST, true, line);
     let rest = t.input;
     let next = t.next;
     Turned {
         input: rest,
-        kept: answer_next(kept, next, line, out),
+        kept: answer_next(kept, next, show, line, out, tally),
         next: next,
     }
 }
 
-// What came is answered.
-fn answer_next(s: Kept, next: Next, line: &[u8], out: &mut [u8]) -> Kept
-    ensures { λ r. ⌜ answeredIn r (now (out .exit)) ≡ answeredOf s next (now (line .entry)) (now (out .entry)) ⌝ }
+// What came is answered and counted.
+fn answer_next(s: Kept, next: Next, show: Show, line: &[u8], out: &mut [u8], tally: &mut [u64]) -> Kept
+    ensures { λ r. ⌜ answeredIn r (now (out .exit)) (now (tally .exit))
+        ≡ answeredOf show s next (now (line .entry)) (now (out .entry)) (now (tally .entry)) ⌝ }
 {
     match next {
-        Next::Line(n) => json::answer_line(s, n, line, out),
-        Next::TooLong => json::answer_long(s, out),
+        Next::Line(n) => json::answer_line(s, n, line, show, out, tally),
+        Next::TooLong => json::answer_long(s, line, show, out, tally),
         Next::Nothing => s,
         Next::Room => s,
     }
@@ -115,4 +118,11 @@ fn asked_by_option(asked: Asked, word: &[u8], i: usize) -> Asked
         a.unknown = i;
     }
     a
+}
+
+// What is written of refused lines.
+pub fn show_of(quiet: bool) -> Show
+    ensures { λ r. ⌜ r ≡ showOf quiet ⌝ }
+{
+    if quiet { Show::Quiet } else { Show::All }
 }
