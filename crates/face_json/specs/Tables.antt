@@ -2,7 +2,7 @@
 -- positions are written from the number as sent, the raw number after each.
 use mathlib.Core.List.{List, _++_}
 use lib.ListN.{take, drop}
-use Rattle.face_rows.specs.Rows.{is, isNot, least, below, number, signed, tenths, degrees, quoted, letter, float, Row, group}
+use Rattle.face_rows.specs.Rows.{always, is, isNot, least, below, number, signed, tenths, degrees, quoted, letter, float, Row, group}
 use Rattle.face_rows.specs.Places.{talker, report, channelThere, channel, rateThere, rate}
 use Rattle.face_rows.specs.Places.{type, repeat, mmsi, status, turnThere, turn, speedThere, speedRaw, accuracy, longitudeThere, longitudeRaw}
 use Rattle.face_rows.specs.Places.{latitudeThere, latitudeRaw, courseThere, courseRaw, headingThere, heading, second, manoeuvre, raim, line, radio}
@@ -11,12 +11,12 @@ use Rattle.face_rows.specs.Places.{callsignLength, stations, firstMmsi, firstMe
 use Rattle.face_rows.specs.Places.{firstOffsetThere2, firstOffset2, secondMmsi, secondMessages, secondType1, secondOffsetThere1, secondOffset1, secondType2}
 use Rattle.face_rows.specs.Places.{secondOffsetThere2, secondOffset2, nameStart, vendorStart, modelTextStart, callsignStart}
 use Rattle.face_json.specs.Words.{statuses, thirties, fifties}
-use Rattle.face_json.specs.Members.{words, wordsIf, member, memberIf, orNull, unlessNull, leastOrNull, flag, between, wordsFrom}
+use Rattle.face_json.specs.Members.{words, wordsIf, valueIf, member, memberIf, orNull, unlessNull, leastOrNull, flag, between, wordsFrom}
 use Rattle.face_json.specs.Members.{quotedFrom, kindRows}
 
 -- an object of gpsd's class, with the number of the line in the input
 abbrev pub openedTable : List Row
-openedTable = words "{\"class\":\"AIS\"" ++ member "line" (number line)
+openedTable = valueIf always "{\"class\":\"AIS\",\"line\":" (number line)
 
 -- the line's talker, by its number in document 000's list; most are AI
 abbrev pub talkerTable : List Row
@@ -55,12 +55,12 @@ headTable =
 abbrev pub nothingTable : List Row
 nothingTable = openedTable ++ words "}\n"
 
--- the words of a status, in three groups; 15 is none
+-- the words of a status: 0, which most ships send, 1 to 5, and the others; 15 is none
 abbrev pub statusTable : List Row
 statusTable =
-    group (below status 3) (quotedFrom "status_text" status 0 (take 3 statuses))
-    ++ between status 3 8 (quotedFrom "status_text" status 3 (take 5 (drop 3 statuses)))
-    ++ group (least status 8) (quotedFrom "status_text" status 8 (drop 8 statuses) ++ wordsIf (least status 15) ",\"status_text\":null")
+    quotedFrom "status_text" status 0 (take 1 statuses)
+    ++ between status 1 6 (quotedFrom "status_text" status 1 (take 5 (drop 1 statuses)))
+    ++ group (least status 6) (quotedFrom "status_text" status 6 (drop 6 statuses) ++ wordsIf (least status 15) ",\"status_text\":null")
 
 -- types 1 to 3; an absent status has the number 15, and an absent manoeuvre 0
 abbrev pub positionTable : List Row

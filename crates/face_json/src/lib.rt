@@ -7,7 +7,7 @@ ghost use Rattle.face_json.specs.Tables.{nothingTable, positionTable, cr
 ghost use Rattle.face_json.specs.Line.{tableOf, messageLine, refusedLine};
 
 // The words of all tables.
-const WORDS: [u8; 2477] =
+const WORDS: [u8; 2499] =
     *b"message number differs from the one beforefill over 5, or fill with empty datarequest outside the writer's limitsfragment number is not the next one\
       message ends inside a needed fieldmessage type is not decodeda lent output is too smallline breaks the line rulesbyte cannot be unarmored\
       message type is unknownpayload over 384 bytesline over 1024 bytes,\"accuracy\":false,\"offset2_1\":null,\"offset2_2\":null,\"offset1_1\":null\
@@ -27,18 +27,13 @@ const WORDS: [u8; 2477] =
       ,\"shiptype_text\":\",\"turn_rate\":nullMedical Transport,\"text_cut\":true,\"channel\":null,\"report\":\"VDM\",\"report\":\"VDO\"Law Enforcement\
       \",\"computed\":\",\"report\":null,\"talker\":\"AB\",\"talker\":\"AD\",\"talker\":\"AI\",\"talker\":\"AN\",\"talker\":\"AR\",\"talker\":\"AS\"\
       ,\"talker\":\"AT\",\"talker\":\"AX\",\"talker\":\"BS\",\"talker\":\"SA\",\"talker\":nullPleasure Craft,\"checksum\":\"Military opsPilot Vessel\
-      Port TenderDiving opsOther TypePassenger,\"text\":SailingTankerCargoTug";
+      Port TenderDiving opsOther TypePassenger,\"text\":SailingTankerCargoTug{\"class\":\"AIS\",\"line\":";
 
 // A row in hex: S_T_VV_PP_K_QQ_RR_FFF_LL, as crate `face_rows` reads it.
-const NOTHING: [u64; 3] = [
-    0x0_0_00_00_0_00_00_288_0e,
-    0x0_0_00_00_1_32_00_3c8_08,
-    0x0_0_00_00_0_00_00_3e1_02,
-];
+const NOTHING: [u64; 2] = [0x0_0_00_00_1_32_00_9ad_16, 0x0_0_00_00_0_00_00_3e1_02];
 
-const POSITION: [u64; 72] = [
-    0x0_0_00_00_0_00_00_288_0e,
-    0x0_0_00_00_1_32_00_3c8_08,
+const POSITION: [u64; 70] = [
+    0x0_0_00_00_1_32_00_9ad_16,
     0x0_1_03_02_0_00_00_8b7_0e,
     0xa_2_03_02_0_00_00_000_00,
     0x0_1_00_02_0_00_00_927_0e,
@@ -62,18 +57,17 @@ const POSITION: [u64; 72] = [
     0x0_0_00_00_1_13_00_3d0_08,
     0x0_2_0f_14_1_14_00_25e_0a,
     0x0_1_0f_14_0_00_00_25e_0e,
-    0x3_4_03_14_0_00_00_000_00,
     0x0_1_00_14_0_00_00_562_27,
+    0x6_3_01_14_0_00_00_000_00,
+    0x5_4_06_14_0_00_00_000_00,
     0x0_1_01_14_0_00_00_666_1a,
     0x0_1_02_14_0_00_00_5cf_22,
-    0x6_3_03_14_0_00_00_000_00,
-    0x5_4_08_14_0_00_00_000_00,
     0x0_1_03_14_0_00_00_4e3_2c,
     0x0_1_04_14_0_00_00_50f_2b,
     0x0_1_05_14_0_00_00_713_17,
+    0xa_3_06_14_0_00_00_000_00,
     0x0_1_06_14_0_00_00_6cb_18,
     0x0_1_07_14_0_00_00_5ac_23,
-    0x8_3_08_14_0_00_00_000_00,
     0x0_1_08_14_0_00_00_5f1_22,
     0x0_1_09_14_0_00_00_3e4_4d,
     0x0_1_0a_14_0_00_00_431_4d,
@@ -111,9 +105,8 @@ const POSITION: [u64; 72] = [
     0x0_0_00_00_0_00_00_3e1_02,
 ];
 
-const CRAFT: [u64; 138] = [
-    0x0_0_00_00_0_00_00_288_0e,
-    0x0_0_00_00_1_32_00_3c8_08,
+const CRAFT: [u64; 137] = [
+    0x0_0_00_00_1_32_00_9ad_16,
     0x0_1_03_02_0_00_00_8b7_0e,
     0xa_2_03_02_0_00_00_000_00,
     0x0_1_00_02_0_00_00_927_0e,
@@ -252,9 +245,8 @@ const CRAFT: [u64; 138] = [
     0x0_0_00_00_0_00_00_3e1_02,
 ];
 
-const STATIC: [u64; 26] = [
-    0x0_0_00_00_0_00_00_288_0e,
-    0x0_0_00_00_1_32_00_3c8_08,
+const STATIC: [u64; 25] = [
+    0x0_0_00_00_1_32_00_9ad_16,
     0x0_1_03_02_0_00_00_8b7_0e,
     0xa_2_03_02_0_00_00_000_00,
     0x0_1_00_02_0_00_00_927_0e,
@@ -281,9 +273,8 @@ const STATIC: [u64; 26] = [
     0x0_0_00_00_0_00_00_3e1_02,
 ];
 
-const ASKED: [u64; 44] = [
-    0x0_0_00_00_0_00_00_288_0e,
-    0x0_0_00_00_1_32_00_3c8_08,
+const ASKED: [u64; 43] = [
+    0x0_0_00_00_1_32_00_9ad_16,
     0x0_1_03_02_0_00_00_8b7_0e,
     0xa_2_03_02_0_00_00_000_00,
     0x0_1_00_02_0_00_00_927_0e,

@@ -1,5 +1,5 @@
 -- A rate of turn from the bit pattern of its single-precision number (IEEE 754), with nine digits after the point: enough that every rate of a report
--- reads back to the same number (proofs/Reads).
+-- reads back to the same number (json/proofs/ReadsBack).
 use Prim.Native.Nat.{ℕ, _+_, _-_, _*_, _/_, _%_, _^_}
 use mathlib.Core.List.{List, _∷_, _++_}
 use lib.Dec.{ltb}

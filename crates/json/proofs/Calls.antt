@@ -87,7 +87,8 @@ module _ (show : Show) (r : Record) (number : ℕ) (line : List ℕ) where
       told-said show number r line (readOf r line .told) (readOf r line .sentence) (readOf r line .message) (readOf r line .bits) (read-tellable r line)
 
   -- so what the code leaves, the answer laid out and shown, is what is promised
-  pub laid-left : (before : Text) (tally : List ℕ) → laidBy show number r line before tally (readOf r line) ≡ leftBy show number r line before tally (readOf r line)
+  pub laid-left : (before : Text) (tally : List ℕ)
+      → laidBy show number r line before tally (readOf r line) ≡ leftBy show number r line before tally (readOf r line)
   laid-left before tally =
       let c = readOf r line in
       ap (λ (s : List ℕ). record { state = c .after; out = put before s; tally = tallyOf tally line (c .told) (c .message) }) call-said

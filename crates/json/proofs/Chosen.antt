@@ -149,7 +149,8 @@ module _ (numbers texts : List ℕ) (place cap n : ℕ) (there : getD numbers pl
   followed (suc k) [] rest h l = absurd (omega arith)
   followed zero (r ∷ rows) rest h l =
       let a = parts r rows h in
-      go (holds numbers (r .when)) (followed 0 rows rest (a .1 .1) (omega arith)) (followed (r .span) rows rest (a .1 .1) (leb→le (r .span) (length rows) (a .1 .0)))
+      let span = leb→le (r .span) (length rows) (a .1 .0) in
+      go (holds numbers (r .when)) (followed 0 rows rest (a .1 .1) (omega arith)) (followed (r .span) rows rest (a .1 .1) span)
     where
       go : (b : Bool) → printedFrom 0 (rows ++ rest) numbers texts ≡ printedFrom 0 rows numbers texts ++ printedFrom 0 rest numbers texts
           → printedFrom (r .span) (rows ++ rest) numbers texts ≡ printedFrom (r .span) rows numbers texts ++ printedFrom 0 rest numbers texts
@@ -174,11 +175,11 @@ eq-list (x ∷ a) (y ∷ b) h =
     let w = both (eqb x y) (eqList a b) h in
     rw (eqb→eq x y (w .0), eq-list a b (w .1))
 
-abbrev upTo : ℕ → (ℕ → Bool) → Bool
+abbrev pub upTo : ℕ → (ℕ → Bool) → Bool
 upTo zero f = f zero
 upTo (suc k) f = f (suc k) && upTo k f
 
-at-most : (k : ℕ) (f : ℕ → Bool) → T (upTo k f) → (n : ℕ) → n ≤ k → T (f n)
+pub at-most : (k : ℕ) (f : ℕ → Bool) → T (upTo k f) → (n : ℕ) → n ≤ k → T (f n)
 at-most zero f h n l = let z : n ≡ 0 = omega arith in rw z h
 at-most (suc k) f h n l = go (leb n k) refl (at-most k f (both (f (suc k)) (upTo k f) h .1) n)
   where

@@ -97,7 +97,11 @@ ships-told = tt
 
 module _ {numbers texts : List ℕ} (n : ℕ) where
   pub status-says : getD numbers at.status 0 ≡ n → Says numbers texts statusTable (statusBy n)
-  status-says e = chosen-says at.status 15 statusTable statusBy statuses-told n e (ap (member "status_text") (capped 15 n (λ (k : ℕ). inQuotes (getD (spelt statuses) k []))))
+  status-says e =
+      let same = capped 15 n (λ (k : ℕ). inQuotes (getD (spelt statuses) k [])) in
+      chosen-says at.status 15 statusTable statusBy statuses-told n e (ap (member "status_text") same)
 
   pub ship-says : getD numbers at.shipType 0 ≡ n → Says numbers texts shipTable (shipBy n)
-  ship-says e = chosen-says at.shipType 100 shipTable shipBy ships-told n e (ap (member "shiptype_text") (capped 100 n (λ (k : ℕ). inQuotes (getD shipTypes k []))))
+  ship-says e =
+      let same = capped 100 n (λ (k : ℕ). inQuotes (getD shipTypes k [])) in
+      chosen-says at.shipType 100 shipTable shipBy ships-told n e (ap (member "shiptype_text") same)

@@ -5,8 +5,15 @@ use native.Mathlib.Omega.{arith}
 use native.Mathlib.Numerals.{add-one}
 use native.Mathlib.Nat.{mul-assoc, mod-lt, div-add-mod', pow-suc}
 use mathlib.Core.Path.{_≡_, refl, sym, ap, _∙_}
+use mathlib.Core.Bool.{Bool, _&&_, _||_}
+use lib.Dec.{T, eqb, leb, ltb}
+use lib.IntN.{ℤ, pos, negsuc}
+use lib.Ieee.{binary32, mul, div, ofInt, round, units, odd, size, climb, span, isNan, toBits}
 use lib.Pow.{pow-mono, pow-pos}
-use Rattle.face_values.specs.Rate.{significandOf, shiftOf, billionthsOf}
+use Rattle.navigation.specs.Navigation.{rootOf}
+use Rattle.layout_position.specs.Position.{patternOf}
+use Rattle.face_values.specs.Rate.{patterns, significandOf, shiftOf, billionthsOf}
+use Rattle.json.proofs.Chosen.{upTo, at-most}
 
 -- a whole count n is near to x / 2 ^ s, where a step is 10 ^ 9 / 2 ^ s: both are multiplied by 2 ^ s, and a quarter of a step by 4
 pub record Near (n x s : ℕ) : Type 0 where
@@ -36,3 +43,27 @@ reads-back p h =
 pub zero-reads : billionthsOf 0 ≡ 0
 unfolding billionthsOf
 zero-reads = refl
+
+-- ---- the rates of turn
+-- 0, or a number from 1/32 up and below 2 ^ 24
+abbrev pub readable : ℕ → Bool
+readable p = eqb p 0 || (ltb p patterns && leb (shiftOf p) 28)
+
+-- (raw / 4.733) times itself, as its bit pattern
+abbrev pub ratePattern : ℤ → ℕ
+ratePattern raw = patternOf (mul binary32 (rootOf raw) (rootOf raw))
+
+rights : T (upTo 126 (λ (k : ℕ). readable (ratePattern (pos k))))
+unfolding mul div ofInt round units odd size climb span isNan toBits
+rights = tt
+
+lefts : T (upTo 125 (λ (k : ℕ). readable (ratePattern (negsuc k))))
+unfolding mul div ofInt round units odd size climb span isNan toBits
+lefts = tt
+
+-- every turn to starboard and to port that has a rate, by computing it
+pub right-readable : (k : ℕ) → k ≤ 126 → T (readable (ratePattern (pos k)))
+right-readable k h = at-most 126 (λ (n : ℕ). readable (ratePattern (pos n))) rights k h
+
+pub left-readable : (k : ℕ) → k ≤ 125 → T (readable (ratePattern (negsuc k)))
+left-readable k h = at-most 125 (λ (n : ℕ). readable (ratePattern (negsuc n))) lefts k h

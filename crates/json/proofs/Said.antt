@@ -38,7 +38,7 @@ use Rattle.layout.specs.Layout.{layoutBy}
 use Rattle.layout.specs.declared.Layout.{Layout}
 use Rattle.layout.proofs.Places.{name-starts, vendor-starts, model-starts, callsign-starts}
 use Rattle.face_values.specs.Quoted.{quotedIn}
-use Rattle.face_rows.specs.Rows.{Row, is, number, signed, tenths, degrees, quoted, letter, float, textAt, printed}
+use Rattle.face_rows.specs.Rows.{Row, always, is, number, signed, tenths, degrees, quoted, letter, float, textAt, printed}
 use Rattle.face_rows.specs.Places as at
 use Rattle.face_json.specs.Members as face
 use Rattle.face_json.specs.Tables.{openedTable, headTable, positionTable, craftMembers as craftRows, craftTable, staticTable, askedTable}
@@ -47,10 +47,11 @@ use Rattle.json.specs.Answer.{lineFor}
 use Rattle.json.specs.Object.{member, spelled, opened, head, positionObject, partNumber, craftMembers}
 use Rattle.json.specs.Object.{partMembers, staticObject, stationsOf, askedOf, tellAt, askedObject, messageObject}
 use Rattle.json.proofs.Sound.{PositionSound, TextsSound, AskedSound, ContentSound, Sound}
-use Rattle.json.proofs.Says.{Says, _then_, whole, said, row-silent, words-say, member-says, member-if-says, or-null-says}
+use Rattle.json.proofs.Says.{Says, _then_, whole, said, row-says, row-silent, words-say, member-says, member-if-says, or-null-says}
 use Rattle.json.proofs.Says.{unless-null-says, least-or-null-says, flag-says}
 use Rattle.json.proofs.Names.{talker-says, report-says, status-says, ship-says}
-use Rattle.json.proofs.Values.{signed-said, degrees-said, reading-said, rate-said, channel-said, turn-said, heading-said, manoeuvre-said, dgps-said, flag-said}
+use Rattle.json.proofs.Values.{signed-said, degrees-said, reading-said, rate-said, channel-said, turn-said, heading-said}
+use Rattle.json.proofs.Values.{manoeuvre-said, dgps-said, flag-said}
 use Rattle.json.proofs.Values.{text-said, mmsiTold, typeTold, offsetTold, first-said, second-said, first-offset, second-offset, of-first, of-second}
 
 -- ---- the layout of an answer: the four numbers after the fifty
@@ -89,7 +90,9 @@ module _ (sentence : Sentence) (line : ℕ) (bits : List ℕ) where
     its n = after (taken complete) sentence m line bits n
 
     opens : Rows openedTable (opened line)
-    opens = words-say "{\"class\":\"AIS\"" then member-says "line" (number at.line) (ap decimalOf (its 0))
+    opens =
+        let word = ascii "{\"class\":\"AIS\",\"line\":" in
+        said (ap (λ (k : ℕ). word ++ decimalOf k) (its 0)) (row-says always refl word (number at.line))
 
     -- what every message has, where its first three numbers stand
     heads : (type repeat mmsi : ℕ) → getD (shown .numbers) at.type 0 ≡ type → getD (shown .numbers) at.repeat 0 ≡ repeat

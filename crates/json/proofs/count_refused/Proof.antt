@@ -19,7 +19,8 @@ same-length c = search needs
 returns : tie.Need-returns
 returns c =
     rw (c .before .before .before .before .if1 .taken)
-    (c .before .before .count-other .ensures ∙ ap (λ (t : List ℕ). bumped t anotherKind) (c .before .before .before .before .before .before .before .count .ensures))
+    (c .before .before .count-other .ensures
+    ∙ ap (λ (t : List ℕ). bumped t anotherKind) (c .before .before .before .before .before .before .before .count .ensures))
 
 same-length-2 : tie.Need-same-length-2
 same-length-2 c = search needs

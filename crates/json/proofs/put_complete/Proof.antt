@@ -45,14 +45,15 @@ returns c =
     let laid = c .before .before .before .before .before .before .before .before .before .before .before .before in
     let radio = laid .before in
     let s = radio .before .before .before .before .args in
-    let a = s .answer in (
+    let a = s .answer in
+    let m = a .message in (
       c .before .before .put-message .ensures
           ∙ ap (λ (l : Layout). put (text (s .at) (s .out .now)) (shownLine l)) (laid .lay .ensures)
           ∙ ap (λ (n : ℕ). put (text (s .at) (s .out .now)) (shownLine (layoutOf a (s .number) n))) (radio .field .ensures .is),
       c .before .before .before .before .before .before .before .before .count .ensures
           ∙ ap (λ (k : ℕ). countedOf (s .tally .now) 0 k)
           (ap (λ (l : Layout). getD (l .numbers) 17 0) (laid .lay .ensures)
-          ∙ type-laid (outcomeIn (a .outcome)) (a .sentence) (a .message .content) (a .message .texts) (a .message .interrogation) (s .number) (radio .field .result)),
+          ∙ type-laid (outcomeIn (a .outcome)) (a .sentence) (m .content) (m .texts) (m .interrogation) (s .number) (radio .field .result)),
     )
 
 pub put-complete-spec : {M : Type 1} → statement M

@@ -61,7 +61,8 @@ returns-2 c =
     rw (ne-eqb _ 0 (first .before .before .before .if1 .left))
     (put-then _ (ascii "unfinished message: ") _ (first .put-bytes .ensures)
     (put-then _ _ _ (id .put-id .ensures)
-    (put-then _ (ascii "lines so far: ") _ (lines .before .before .before .before .before .put-bytes2 .ensures) (put-then _ _ _ (lines .put-decimal .ensures) rest))))
+    (put-then _ (ascii "lines so far: ") _ (lines .before .before .before .before .before .put-bytes2 .ensures)
+    (put-then _ _ _ (lines .put-decimal .ensures) rest))))
 
 pub put-unfinished-spec : {M : Type 1} → statement M
 put-unfinished-spec =
