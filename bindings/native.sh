@@ -53,7 +53,7 @@ program() {
         file=$root/target/bin/$1
         is_built "$file" || (cd "$root" && rt check "$1") >&2 || return 1
     else
-        is_built "$file" || { rm -f "$root/target/stamp/$1" && object "$1" check && cc -o "$file" "$file.o"; } >&2 || return 1
+        is_built "$file" || { rm -f "$root/target/stamp/$1" && object "$1" check && cc -o "$file" "$file.o" "$root/bindings/native_os.c"; } >&2 || return 1
     fi
     printf '%s\n' "$file"
 }

@@ -74,7 +74,15 @@ fn emptied(input: Input, kept: Kept, show: Show, out: &[u8]) -> Run {
 }
 
 // No line ends in the block: what was told is written, and more is read. At the end of the input what is held is a last line.
-fn go_on(s: Run, from: i32, name: &[u8], block: &mut [u8], line: &[u8], out: &mut [u8], tally: &mut [u64]) -> Run {
+fn go_on(
+    s: Run,
+    from: i32,
+    name: &[u8],
+    block: &mut [u8],
+    line: &[u8],
+    out: &mut [u8],
+    tally: &mut [u64],
+) -> Run {
     let kept = s.kept;
     let show = s.show;
     let f = stream::read_on(s.input, from, block, STDOUT_FILENO, out, kept.used);
@@ -89,7 +97,14 @@ fn go_on(s: Run, from: i32, name: &[u8], block: &mut [u8], line: &[u8], out: &mu
 }
 
 // The last line of an input.
-fn at_end(input: Input, kept: Kept, show: Show, line: &[u8], out: &mut [u8], tally: &mut [u64]) -> Run {
+fn at_end(
+    input: Input,
+    kept: Kept,
+    show: Show,
+    line: &[u8],
+    out: &mut [u8],
+    tally: &mut [u64],
+) -> Run {
     let t = decoding::last_turn(input, kept, show, line, out, tally);
     let rest = t.input;
     let told = t.kept;
@@ -101,8 +116,43 @@ fn at_end(input: Input, kept: Kept, show: Show, line: &[u8], out: &mut [u8], tal
     }
 }
 
+// After a turn: the output buffer is written where it is nearly full, and more is read where no line came.
+fn after_turn(
+    s: Run,
+    next: Next,
+    from: i32,
+    name: &[u8],
+    block: &mut [u8],
+    line: &[u8],
+    out: &mut [u8],
+    tally: &mut [u64],
+) -> Run {
+    let kept = s.kept;
+    let show = s.show;
+    match next {
+        Next::Line(_) => emptied(s.input, kept, show, out),
+        Next::TooLong => emptied(s.input, kept, show, out),
+        Next::Nothing => go_on(s, from, name, block, line, out, tally),
+        Next::Room => failed(
+            s.input,
+            kept,
+            show,
+            b"a line's buffer is too short for",
+            name,
+        ),
+    }
+}
+
 // The next line, answered.
-fn answer_one(s: Run, from: i32, name: &[u8], block: &mut [u8], line: &mut [u8], out: &mut [u8], tally: &mut [u64]) -> Run {
+fn answer_one(
+    s: Run,
+    from: i32,
+    name: &[u8],
+    block: &mut [u8],
+    line: &mut [u8],
+    out: &mut [u8],
+    tally: &mut [u64],
+) -> Run {
     let input = s.input;
     let kept = s.kept;
     let show = s.show;
@@ -110,12 +160,16 @@ fn answer_one(s: Run, from: i32, name: &[u8], block: &mut [u8], line: &mut [u8],
     let rest = t.input;
     let told = t.kept;
     let next = t.next;
-    match next {
-        Next::Line(_) => emptied(rest, told, show, out),
-        Next::TooLong => emptied(rest, told, show, out),
-        Next::Nothing => go_on(going(rest, told, show), from, name, block, line, out, tally),
-        Next::Room => failed(rest, told, show, b"a line's buffer is too short for", name),
-    }
+    after_turn(
+        going(rest, told, show),
+        next,
+        from,
+        name,
+        block,
+        line,
+        out,
+        tally,
+    )
 }
 
 // Whether a run goes on.
@@ -128,7 +182,15 @@ fn is_on(way: Way) -> bool {
 }
 
 // All lines of an input. Nothing says that it ends, so the loop counts its rounds down, from a number that no run uses up.
-fn answer_all(s: Run, from: i32, name: &[u8], block: &mut [u8], line: &mut [u8], out: &mut [u8], tally: &mut [u64]) -> Run {
+fn answer_all(
+    s: Run,
+    from: i32,
+    name: &[u8],
+    block: &mut [u8],
+    line: &mut [u8],
+    out: &mut [u8],
+    tally: &mut [u64],
+) -> Run {
     let mut now = s;
     let mut rounds = u64::MAX;
     while rounds > 0 {
@@ -143,7 +205,14 @@ fn answer_all(s: Run, from: i32, name: &[u8], block: &mut [u8], line: &mut [u8],
 }
 
 // The input that argument i names, if it names one.
-fn answer_argument(s: Run, i: usize, block: &mut [u8], line: &mut [u8], out: &mut [u8], tally: &mut [u64]) -> Run {
+fn answer_argument(
+    s: Run,
+    i: usize,
+    block: &mut [u8],
+    line: &mut [u8],
+    out: &mut [u8],
+    tally: &mut [u64],
+) -> Run {
     let mut name = io::buffer();
     let n = os::arg(i, &mut name);
     match arguments::word_of(&name[..n]) {
@@ -155,14 +224,29 @@ fn answer_argument(s: Run, i: usize, block: &mut [u8], line: &mut [u8], out: &mu
 }
 
 // The input of a name: its lines, from where the one before ended.
-fn answer_input(s: Run, name: &[u8], block: &mut [u8], line: &mut [u8], out: &mut [u8], tally: &mut [u64]) -> Run {
+fn answer_input(
+    s: Run,
+    name: &[u8],
+    block: &mut [u8],
+    line: &mut [u8],
+    out: &mut [u8],
+    tally: &mut [u64],
+) -> Run {
     let from = arguments::open(name);
     let kept = s.kept;
     let show = s.show;
     if from < 0 {
         return failed(s.input, kept, show, b"opening", name);
     }
-    let end = answer_all(going(stream::start(), kept, show), from, name, block, line, out, tally);
+    let end = answer_all(
+        going(stream::start(), kept, show),
+        from,
+        name,
+        block,
+        line,
+        out,
+        tally,
+    );
     libc::close(from);
     end
 }
@@ -177,7 +261,14 @@ fn is_failed(way: Way) -> bool {
 }
 
 // The inputs that the arguments name, in turn.
-fn answer_arguments(s: Run, count: usize, block: &mut [u8], line: &mut [u8], out: &mut [u8], tally: &mut [u64]) -> Run {
+fn answer_arguments(
+    s: Run,
+    count: usize,
+    block: &mut [u8],
+    line: &mut [u8],
+    out: &mut [u8],
+    tally: &mut [u64],
+) -> Run {
     let mut now = s;
     let mut i = 1;
     while i < count {
@@ -222,7 +313,15 @@ fn are_readable(count: usize) -> bool {
 }
 
 // The inputs that are named, or standard input where none is.
-fn answer_inputs(s: Run, named: bool, count: usize, block: &mut [u8], line: &mut [u8], out: &mut [u8], tally: &mut [u64]) -> Run {
+fn answer_inputs(
+    s: Run,
+    named: bool,
+    count: usize,
+    block: &mut [u8],
+    line: &mut [u8],
+    out: &mut [u8],
+    tally: &mut [u64],
+) -> Run {
     if named {
         return answer_arguments(s, count, block, line, out, tally);
     }
@@ -243,7 +342,15 @@ fn answer_asked(asked: Asked, count: usize) -> u8 {
     };
     let show = decoding::show_of(asked.quiet);
     let begun = going(stream::start(), kept, show);
-    let end = answer_inputs(begun, asked.inputs, count, &mut block, &mut line, &mut out, &mut tally);
+    let end = answer_inputs(
+        begun,
+        asked.inputs,
+        count,
+        &mut block,
+        &mut line,
+        &mut out,
+        &mut tally,
+    );
     let status = finish(end, &out);
     say_end(end, asked.summary, &tally);
     status

@@ -20,7 +20,15 @@ pub struct Turned {
 }
 
 // The next line that ends in the block, answered.
-pub fn turn(input: Input, kept: Kept, show: Show, block: &[u8], line: &mut [u8], out: &mut [u8], tally: &mut [u64]) -> Turned
+pub fn turn(
+    input: Input,
+    kept: Kept,
+    show: Show,
+    block: &[u8],
+    line: &mut [u8],
+    out: &mut [u8],
+    tally: &mut [u64],
+) -> Turned
     ensures { λ r. ⌜ turnIn r (now (line .exit)) (now (out .exit)) (now (tally .exit))
         ≡ turnOf show input kept (now (block .entry)) (now (line .entry)) (now (out .entry)) (now (tally .entry)) ⌝ }
 {
@@ -35,7 +43,14 @@ pub fn turn(input: Input, kept: Kept, show: Show, block: &[u8], line: &mut [u8],
 }
 
 // At the end of the input: bytes that are held are a last line, answered.
-pub fn last_turn(input: Input, kept: Kept, show: Show, line: &[u8], out: &mut [u8], tally: &mut [u64]) -> Turned
+pub fn last_turn(
+    input: Input,
+    kept: Kept,
+    show: Show,
+    line: &[u8],
+    out: &mut [u8],
+    tally: &mut [u64],
+) -> Turned
     ensures { λ r. ⌜ lastIn r (now (out .exit)) (now (tally .exit))
         ≡ lastOf show input kept (now (line .entry)) (now (out .entry)) (now (tally .entry)) ⌝ }
 {
@@ -50,7 +65,14 @@ pub fn last_turn(input: Input, kept: Kept, show: Show, line: &[u8], out: &mut [u
 }
 
 // What came is answered and counted.
-fn answer_next(s: Kept, next: Next, show: Show, line: &[u8], out: &mut [u8], tally: &mut [u64]) -> Kept
+fn answer_next(
+    s: Kept,
+    next: Next,
+    show: Show,
+    line: &[u8],
+    out: &mut [u8],
+    tally: &mut [u64],
+) -> Kept
     ensures { λ r. ⌜ answeredIn r (now (out .exit)) (now (tally .exit))
         ≡ answeredOf show s next (now (line .entry)) (now (out .entry)) (now (tally .entry)) ⌝ }
 {

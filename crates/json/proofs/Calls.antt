@@ -74,7 +74,7 @@ module _ (r : Record) (line : List ℕ) (payload bits : List ℕ) (checks : List
       (taken-sound t (pick (decodes Decode.On s) (messageBy (typeOf d) d) noMessage) (on-pick Sound (decodes Decode.On s) (decoded-sound (typeOf d) d) tt))
   by-parsed (Parsed.Bad place) = checked-tellable checks complete noMessage tt
 
-read-tellable : (r : Record) (line : List ℕ) → Tellable (readOf r line .told) (readOf r line .message)
+pub read-tellable : (r : Record) (line : List ℕ) → Tellable (readOf r line .told) (readOf r line .message)
 unfolding readOf calledOf
 read-tellable r line = by-parsed r line (replicate 384 0) (replicate 288 0) (checksOf r line Decode.On 384 288) (parsedOf line)
 

@@ -9,7 +9,7 @@ use lib.ListN.{length, getD, take}
 use lib.Seq.{take-take}
 use Rattle.refusal.specs.Words.{pick}
 use Rattle.refusal.specs.Refusal.{rowOf}
-use Rattle.refusal.specs.Values.{Held}
+use Rattle.refusal.specs.Values.{Returned}
 use Rattle.refusal.specs.declared.Refusal.{Refusal}
 use Rattle.refusal.specs.declared.Values.{Values}
 use Rattle.text_out.specs.Text.{ascii}

@@ -7,13 +7,14 @@ use Rattle.decode.proofs.answer_arguments.Statement.{statement}
 use Rattle.decode.proofs.answer_arguments.Tie as tie
 
 abbrev Inv-loop : tie.InvT-loop
-Inv-loop count block₀ line₀ out₀ now₀ i₀ block line out now i = (length block ≡ length block₀) × (length line ≡ length line₀) × (length out ≡ length out₀)
+Inv-loop count block₀ line₀ out₀ tally₀ now₀ i₀ block line out tally now i =
+    (length block ≡ length block₀) × (length line ≡ length line₀) × (length out ≡ length out₀) × (length tally ≡ length tally₀)
 
 abbrev μ-loop : tie.MeasureT-loop
-μ-loop count block₀ line₀ out₀ now₀ i₀ block line out now i = count - i
+μ-loop count block₀ line₀ out₀ tally₀ now₀ i₀ block line out tally now i = count - i
 
 loop-holds : tie.Need-loop-holds Inv-loop μ-loop
-loop-holds c = (refl, refl, refl)
+loop-holds c = (refl, refl, refl, refl)
 
 answer-argument-requires : tie.Need-answer-argument-requires Inv-loop μ-loop
 answer-argument-requires c κs = search needs
@@ -30,6 +31,9 @@ same-length-2 c = search needs
 same-length-3 : tie.Need-same-length-3 Inv-loop μ-loop
 same-length-3 c = search needs
 
+same-length-4 : tie.Need-same-length-4 Inv-loop μ-loop
+same-length-4 c = search needs
+
 returns : tie.Need-returns Inv-loop μ-loop
 returns c = search needs
 
@@ -42,14 +46,17 @@ loop-less c = search needs
 loop-again : tie.Need-loop-again Inv-loop μ-loop
 loop-again c = search needs
 
-same-length-4 : tie.Need-same-length-4 Inv-loop μ-loop
-same-length-4 c = search needs
-
 same-length-5 : tie.Need-same-length-5 Inv-loop μ-loop
 same-length-5 c = search needs
 
 same-length-6 : tie.Need-same-length-6 Inv-loop μ-loop
 same-length-6 c = search needs
+
+same-length-7 : tie.Need-same-length-7 Inv-loop μ-loop
+same-length-7 c = search needs
+
+same-length-8 : tie.Need-same-length-8 Inv-loop μ-loop
+same-length-8 c = search needs
 
 returns-2 : tie.Need-returns-2 Inv-loop μ-loop
 returns-2 c = search needs
@@ -66,11 +73,13 @@ answer-arguments-spec =
     same-length
     same-length-2
     same-length-3
+    same-length-4
     returns
     add-i
     loop-less
     loop-again
-    same-length-4
     same-length-5
     same-length-6
+    same-length-7
+    same-length-8
     returns-2)

@@ -6,16 +6,19 @@ use Rattle.trace.proofs.answer_all.Statement.{statement}
 use Rattle.trace.proofs.answer_all.Tie as tie
 
 abbrev Inv-loop : tie.InvT-loop
-Inv-loop block₀ line₀ out₀ now₀ turns₀ block line out now rounds = (length block ≡ length block₀) × (length line ≡ length line₀) × (length out ≡ length out₀)
+Inv-loop block₀ line₀ out₀ now₀ rounds₀ block line out now rounds = (length block ≡ length block₀) × (length line ≡ length line₀) × (length out ≡ length out₀)
 
 abbrev μ-loop : tie.MeasureT-loop
-μ-loop block₀ line₀ out₀ now₀ turns₀ block line out now rounds = rounds
+μ-loop block₀ line₀ out₀ now₀ rounds₀ block line out now rounds = rounds
 
 loop-holds : tie.Need-loop-holds Inv-loop μ-loop
 loop-holds c = (refl, refl, refl)
 
 answer-one-requires : tie.Need-answer-one-requires Inv-loop μ-loop
 answer-one-requires c κs = search needs
+
+is-on-requires : tie.Need-is-on-requires Inv-loop μ-loop
+is-on-requires c κs = search needs
 
 same-length : tie.Need-same-length Inv-loop μ-loop
 same-length c = search needs
@@ -58,6 +61,7 @@ answer-all-spec =
     μ-loop
     loop-holds
     answer-one-requires
+    is-on-requires
     same-length
     same-length-2
     same-length-3
