@@ -62,6 +62,6 @@ module _ (s : List ℕ) (h : length s ≤ lineMost) where
   pub json-whole : (at : ℕ) (out : List ℕ) → at + lineMost ≤ length out → Whole at out s (put (text at out) s)
   json-whole at out room = put-whole at out s (omega arith)
 
-  -- the program's output buffer has 65,536 bytes, and fewer than 49,152 are in use before a line is answered (stream::emptied)
+  -- the program's output buffer has 65,536 bytes, and fewer than 49,152 are in use before a line is answered (stream::is_full)
   pub turn-whole : (at : ℕ) (out : List ℕ) → at < 49152 → 65536 ≤ length out → Whole at out s (put (text at out) s)
   turn-whole at out used room = json-whole at out (omega arith)

@@ -5,7 +5,7 @@ use mathlib.Core.List.{List}
 use lib.ListN.{length, take, drop}
 use Rattle.text_out.specs.Text.{Text}
 
--- the bytes s stand at a place of a buffer, the place behind them is told, and the other bytes are as they were
+-- the bytes s stand at a place of a buffer, the place after them is told, and the other bytes are as they were
 pub record Whole (at : ℕ) (bytes s : List ℕ) (t : Text) : Type 0 where
   pub place : t .at ≡ at + length s
   pub stands : take (length s) (drop at (t .bytes)) ≡ s
