@@ -6,8 +6,8 @@ use lib.Dec.{eqb}
 use Rattle.refusal.specs.Words.{pick}
 use Rattle.text_in.specs.Same.{sameAs}
 use Rattle.text_out.specs.Text.{ascii}
-use Rattle.arguments.specs.declared.Word.{Word}
-use Rattle.arguments.specs.Words.{wordOf}
+use Rattle.inputs.specs.declared.Word.{Word}
+use Rattle.inputs.specs.Words.{wordOf}
 use Rattle.json.specs.declared.Show.{Show}
 use Rattle.decoding.specs.declared.Asked.{Asked}
 

@@ -70,3 +70,7 @@ lastBy show k line out tally t = record { input = t .input; next = t .next; answ
 
 unfoldable pub lastOf : Show → Input → Kept → List ℕ → List ℕ → List ℕ → Lasts
 lastOf show input k line out tally = lastBy show k line out tally (atEnd 1024 true input line)
+
+-- what is kept once the output buffer was written
+abbrev pub writtenOf : Kept → Kept
+writtenOf k = record { state = k .state; number = k .number; used = 0 }

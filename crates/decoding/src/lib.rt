@@ -1,12 +1,12 @@
 // Program `decode` but for the system's calls: its turn, in which a line is taken out of the block and answered and what is not of that line is kept;
 // and what the words of its command line ask.
-use arguments::Word;
+use inputs::Word;
 use json::Kept;
 use json::Show;
 use stream::Input;
 use stream::Next;
 ghost use mathlib.Core.Path.{_≡_};
-ghost use Rattle.decoding.specs.Turn.{answeredOf, answeredIn, turnOf, turnIn, lastOf, lastIn};
+ghost use Rattle.decoding.specs.Turn.{answeredOf, answeredIn, turnOf, turnIn, lastOf, lastIn, writtenOf};
 ghost use Rattle.decoding.specs.Asked.{askedNothing, askedBy, optionBy, showOf};
 
 // Document 01: "line over 1,024 bytes" is refused. A CR before the LF is not one of them.
@@ -64,6 +64,18 @@ pub fn last_turn(
     }
 }
 
+// What is kept once the output buffer was written.
+pub fn written(kept: Kept) -> Kept
+    ensures { λ r. ⌜ r ≡ writtenOf kept ⌝ }
+{
+    let state = kept.state;
+    Kept {
+        state: state,
+        number: kept.number,
+        used: 0,
+    }
+}
+
 // What came is answered and counted.
 fn answer_next(
     s: Kept,
@@ -114,7 +126,7 @@ pub fn asked_by(asked: Asked, word: &[u8], i: usize) -> Asked
     ensures { λ r. ⌜ r ≡ askedBy asked (now (word .entry)) i ⌝ }
 {
     let mut a = asked;
-    match arguments::word_of(word) {
+    match inputs::word_of(word) {
         Word::Help => a.help = true,
         Word::Status => a.status = true,
         Word::Input => a.inputs = true,

@@ -1,5 +1,7 @@
 // Input line by line and output in large pieces, for every program that answers the lines it is given. What the system's calls do is assumed; what is
 // taken out of a block, what a read leaves as it was and what is said of a call that failed are promised.
+mod pause;
+
 use libc::STDERR_FILENO;
 use lines::Collector;
 use lines::Event;

@@ -6,17 +6,14 @@ use Rattle.decode.proofs.answer_all.Statement.{statement}
 use Rattle.decode.proofs.answer_all.Tie as tie
 
 abbrev Inv-loop : tie.InvT-loop
-Inv-loop from name block₀ line₀ out₀ tally₀ now₀ rounds₀ block line out tally now rounds =
+Inv-loop show block₀ line₀ out₀ tally₀ now₀ rounds₀ block line out tally now rounds =
     (length block ≡ length block₀) × (length line ≡ length line₀) × (length out ≡ length out₀) × (length tally ≡ length tally₀)
 
 abbrev μ-loop : tie.MeasureT-loop
-μ-loop from name block₀ line₀ out₀ tally₀ now₀ rounds₀ block line out tally now rounds = rounds
+μ-loop show block₀ line₀ out₀ tally₀ now₀ rounds₀ block line out tally now rounds = rounds
 
 loop-holds : tie.Need-loop-holds Inv-loop μ-loop
 loop-holds c = (refl, refl, refl, refl)
-
-answer-one-requires : tie.Need-answer-one-requires Inv-loop μ-loop
-answer-one-requires c κs = search needs
 
 is-on-requires : tie.Need-is-on-requires Inv-loop μ-loop
 is-on-requires c κs = search needs
@@ -35,6 +32,9 @@ same-length-4 c = search needs
 
 returns : tie.Need-returns Inv-loop μ-loop
 returns c = search needs
+
+answer-one-requires : tie.Need-answer-one-requires Inv-loop μ-loop
+answer-one-requires c κs = search needs
 
 sub-rounds : tie.Need-sub-rounds Inv-loop μ-loop
 sub-rounds c = search needs
@@ -67,13 +67,13 @@ answer-all-spec =
     Inv-loop
     μ-loop
     loop-holds
-    answer-one-requires
     is-on-requires
     same-length
     same-length-2
     same-length-3
     same-length-4
     returns
+    answer-one-requires
     sub-rounds
     loop-less
     loop-again

@@ -1,17 +1,20 @@
+-- `decode::answer_one` hands its buffers back as long as they were. Assumes nothing.
+use mathlib.Core.Path.{_∙_}
 use borrow.Author.Needs.{needs}
 use Rattle.decode.proofs.answer_one.Statement.{statement}
 use Rattle.decode.proofs.answer_one.Tie as tie
-use Rattle.decode.proofs.answer_one.Reads as reads
-use Rattle.decode.proofs.answer_one.Lts as lts
-use Rattle.decode.proofs.after_turn.Reads as after-turn-reads
-use Rattle.decode.proofs.going.Reads as going-reads
-use Rattle.decoding.proofs.turn.Reads as turn-reads
 
 turn-requires : tie.Need-turn-requires
 turn-requires c κs = search needs
 
-going-requires : tie.Need-going-requires
-going-requires c κs = search needs
+taken-requires : tie.Need-taken-requires
+taken-requires c κs = search needs
+
+slice-aggregate-go-on : tie.Need-slice-aggregate-go-on
+slice-aggregate-go-on c = search needs
+
+go-on-requires : tie.Need-go-on-requires
+go-on-requires c κs = search needs
 
 after-turn-requires : tie.Need-after-turn-requires
 after-turn-requires c κs = search needs
@@ -21,14 +24,21 @@ same-length c = search needs
 
 same-length-2 : tie.Need-same-length-2
 same-length-2 c =
-    let at-line = c .before .before .before .before .before .before .before .before .before .before .before .before .before .before .before .before .before .before .before in
-    at-line .line .given
+    let after = c .before .before .before .before .before .before .before .before .before .before in
+    let turned = after .before .before .before .before .before .before .before .before .before .before .before in
+    turned .line .given
 
 same-length-3 : tie.Need-same-length-3
-same-length-3 c = search needs
+same-length-3 c =
+    let after = c .before .before .before .before .before .before .before .before .before .before in
+    let turned = after .before .before .before .before .before .before .before .before .before in
+    c .before .before .before .out2 .given ∙ turned .out .given
 
 same-length-4 : tie.Need-same-length-4
-same-length-4 c = search needs
+same-length-4 c =
+    let after = c .before .before .before .before .before .before .before .before .before .before in
+    let turned = after .before .before .before .before .before .before .before in
+    c .before .tally2 .given ∙ turned .tally .given
 
 returns : tie.Need-returns
 returns c = search needs
@@ -38,7 +48,9 @@ answer-one-spec =
     tie.close
     (tie.spec
     turn-requires
-    going-requires
+    taken-requires
+    slice-aggregate-go-on
+    go-on-requires
     after-turn-requires
     same-length
     same-length-2

@@ -1,4 +1,4 @@
--- `decode::ask` ends: fewer arguments are left with each turn. Assumes nothing.
+-- `decode::ask` ends: fewer words are left with each turn. Assumes nothing.
 use Prim.Native.Nat.{_-_}
 use borrow.Author.Needs.{needs}
 use Rattle.decode.proofs.ask.Statement.{statement}
@@ -9,6 +9,9 @@ Inv-loop count asked₀ i₀ asked i = Unit {0}
 
 abbrev μ-loop : tie.MeasureT-loop
 μ-loop count asked₀ i₀ asked i = count - i
+
+arg-count-requires : tie.Need-arg-count-requires Inv-loop μ-loop
+arg-count-requires c κs = search needs
 
 nothing-asked-requires : tie.Need-nothing-asked-requires Inv-loop μ-loop
 nothing-asked-requires c κs = search needs
@@ -37,6 +40,7 @@ ask-spec =
     (tie.spec
     Inv-loop
     μ-loop
+    arg-count-requires
     nothing-asked-requires
     loop-holds
     ask-by-requires

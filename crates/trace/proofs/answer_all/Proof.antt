@@ -60,12 +60,12 @@ answer-all-spec =
     Inv-loop
     μ-loop
     loop-holds
-    answer-one-requires
     is-on-requires
     same-length
     same-length-2
     same-length-3
     returns
+    answer-one-requires
     sub-rounds
     loop-less
     loop-again

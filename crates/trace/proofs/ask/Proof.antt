@@ -1,4 +1,4 @@
--- `trace::ask` ends: fewer arguments are left with each turn. Assumes nothing.
+-- `trace::ask` ends: fewer words are left with each turn. Assumes nothing.
 use Prim.Native.Nat.{_-_}
 use borrow.Author.Needs.{needs}
 use Rattle.trace.proofs.ask.Statement.{statement}
@@ -9,6 +9,9 @@ Inv-loop count asked₀ i₀ asked i = Unit {0}
 
 abbrev μ-loop : tie.MeasureT-loop
 μ-loop count asked₀ i₀ asked i = count - i
+
+arg-count-requires : tie.Need-arg-count-requires Inv-loop μ-loop
+arg-count-requires c κs = search needs
 
 loop-holds : tie.Need-loop-holds Inv-loop μ-loop
 loop-holds c = tt
@@ -31,4 +34,13 @@ returns c = search needs
 pub ask-spec : {M : Type 1} → statement M
 ask-spec =
     tie.close
-    (tie.spec Inv-loop μ-loop loop-holds ask-by-requires add-i loop-less loop-again returns)
+    (tie.spec
+    Inv-loop
+    μ-loop
+    arg-count-requires
+    loop-holds
+    ask-by-requires
+    add-i
+    loop-less
+    loop-again
+    returns)

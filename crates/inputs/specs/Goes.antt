@@ -1,0 +1,64 @@
+-- What can be promised of what is done between two lines: of what is read and written no promise can speak.
+use Prim.Native.Nat.{ℕ, _≤_, _<_}
+use mathlib.Core.Path.{_≡_}
+use mathlib.Core.Bool.{Bool, true, false}
+use mathlib.Core.List.{List}
+use lib.Dec.{leb}
+use lib.IntN.{ℤ}
+use lib.ListN.{length}
+use Rattle.refusal.specs.Words.{pick}
+use Rattle.stream.specs.declared.Input.{Input}
+use Rattle.stream.specs.declared.Next.{Next}
+use Rattle.stream.specs.Next.{atStart}
+use Rattle.inputs.specs.declared.Source.{Source}
+use Rattle.inputs.specs.declared.Way.{Way}
+use Rattle.inputs.specs.declared.Gone.{Gone}
+
+abbrev pub sourceOf : Input → ℤ → ℕ → Source
+sourceOf input from place = record { input = input; from = from; place = place }
+
+abbrev pub isOn : Way → Bool
+isOn Way.On = true
+isOn Way.Last = true
+isOn Way.Ended = false
+isOn Way.Failed = false
+
+-- at an input's start; nothing of the output is written
+pub record Opens (used : ℕ) (r : Gone) : Type 0 where
+  pub at-start : r .source .input ≡ atStart
+  pub used-kept : r .used ≡ used
+
+-- how much of the output buffer is in use after a line: nothing where it was nearly full and is written, all where that failed
+abbrev pub LeftInUse : Way → ℕ → ℕ → Type 0
+LeftInUse Way.On used n = n ≡ pick (leb 49152 used) 0 used
+LeftInUse Way.Last used n = ⊥
+LeftInUse Way.Ended used n = ⊥
+LeftInUse Way.Failed used n = (n ≡ used) × (leb 49152 used ≡ true)
+
+-- after a line: the source stays
+pub record Empties (source : Source) (used : ℕ) (r : Gone) : Type 0 where
+  pub same-source : r .source ≡ source
+  pub in-use : LeftInUse (r .way) used (r .used)
+
+-- what a read brought: some bytes, or none at the end of the input or where it failed; what was told is written but where that failed
+abbrev pub Brought : Way → ℕ → ℕ → ℕ → Type 0
+Brought Way.On filled used n = (0 < filled) × (n ≡ 0)
+Brought Way.Last filled used n = (filled ≡ 0) × (n ≡ 0)
+Brought Way.Ended filled used n = ⊥
+Brought Way.Failed filled used n = (filled ≡ 0) × (n ≤ used)
+
+-- reading on: what is held is kept, reading goes on at the block's start, and what was filled lies in the block
+pub record Reads (source : Source) (used : ℕ) (r : Gone) (block : List ℕ) : Type 0 where
+  pub held-kept : r .source .input .held ≡ source .input .held
+  pub at-start : r .source .input .from ≡ 0
+  pub in-block : r .source .input .filled ≤ length block
+  pub same-from : r .source .from ≡ source .from
+  pub same-place : r .source .place ≡ source .place
+  pub came : Brought (r .way) (r .source .input .filled) used (r .used)
+
+-- by what came: a line, one that is too long, nothing, or too short a buffer for a line, which stops the run
+abbrev pub Goes : Source → Next → ℕ → Gone → List ℕ → Type 0
+Goes source (Next.Line n) used r block = Empties source used r
+Goes source Next.TooLong used r block = Empties source used r
+Goes source Next.Nothing used r block = Reads source used r block
+Goes source Next.Room used r block = r ≡ record { source = source; used = used; way = Way.Failed }
