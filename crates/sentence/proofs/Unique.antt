@@ -1,4 +1,5 @@
--- What a line is answered, by document 01's numbers. The promise, `parsedOf`, is an equation on the answer itself and tells the place too. Assumes nothing.
+-- What a line is answered, by document 01's numbers. The promise, `parsedOf`, is an equation on the answer itself and tells the place too. NOTHING IS LOST of a
+-- tag block's end. Assumes nothing.
 use mathlib.Core.Path.{_≡_, refl, ap, _∙_}
 use mathlib.Core.List.{List, []}
 use Prim.Native.Nat.{ℕ}
@@ -16,3 +17,7 @@ told-by (bad place) = refl
 pub answers : (s : List ℕ) (r : Parsed) → r ≡ parsedOf s → parsedIn r ≡ lineTold s
 unfolding parsedOf
 answers s r e = ap parsedIn e ∙ told-by (line s 0)
+
+-- the place after a tag block is told by what its rule reads
+pub same-block : (m n : ℕ) → _≡_ {A = Read Unit} (read tt m) (read tt n) → m ≡ n
+same-block m n e = ap (λ (r : Read Unit). onRead r (λ _ next. next) (λ place. place)) e
