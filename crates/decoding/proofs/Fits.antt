@@ -2,7 +2,7 @@
 -- the end of the input. Assumes nothing.
 use Prim.Native.Nat.{ℕ, _≤_, _<_, _+_}
 use native.Mathlib.Omega.{arith}
-use mathlib.Core.Path.{_≡_, refl, sym, subst}
+use mathlib.Core.Path.{_≡_, sym, subst}
 use mathlib.Core.Bool.{Bool, true, false}
 use mathlib.Core.List.{List, [], _++_}
 use lib.Dec.{eqb}
@@ -16,7 +16,6 @@ use Rattle.text_out.specs.Whole.{Whole}
 use Rattle.text_out.proofs.Lengths.{decimal-most}
 use Rattle.text_out.proofs.Whole.{put-whole}
 use Rattle.sentence.specs.declared.Number.{Number}
-use Rattle.static_data_report.specs.declared.Texts.{Texts}
 use Rattle.messages.specs.declared.AisMessage.{AisMessage}
 use Rattle.messages.specs.declared.Message.{Message}
 use Rattle.reassembly.specs.declared.Record.{Record}
