@@ -7,7 +7,7 @@ use Rattle.refusal.specs.Words.{pick, within}
 use Rattle.parsers.specs.Bits.{bitAt, cut, pack}
 use Rattle.armour.specs.declared.TrueType.{TrueType}
 
--- its table: `0` to `W` (48 to 87) are 0 to 39, and "`" to `w` (96 to 119) are 40 to 63; "the intermediate range "X" (88) to "_" (95) is not used".
+-- its table: `0` to `W` (48 to 87) are 0 to 39, and the backtick to `w` (96 to 119) are 40 to 63; "the intermediate range "X" (88) to "_" (95) is not used".
 -- 64, which is no six bits, stands for every byte that the table has not
 unfoldable pub meaning : ℕ → ℕ
 meaning b = pick (within 48 87 b) (b - 48) (pick (within 96 119 b) (b - 56) 64)

@@ -1,4 +1,4 @@
--- The cases marked P of document 01's Soundings, as one table: `w` is 119, `W` 87, "`" 96, `X` 88, `_` 95, `/` 47, `x` 120.
+-- The cases marked P of document 01's Soundings, as one table: `w` is 119, `W` 87, the backtick 96, `X` 88, `_` 95, `/` 47, `x` 120.
 use mathlib.Core.List.{List, [], _∷_}
 use Prim.Native.Nat.{ℕ}
 use lib.ListN.{length}

@@ -34,7 +34,7 @@ pub record ReadBack (s : Sent) (answers : List Answer) : Type 0 where
   pub back : (out : List ℕ) (r : Unarmored) (out′ : List ℕ) → size (length payload) ≤ length out → Unarmors payload fill out r out′
       → BitsBack (s .request .count) (s .bytes) r out′
 
--- THE ROUND TRIP: what any call of the writer wrote, cut into lines, each "read in order into a fresh record with decoding off", however it ends
+-- THE ROUND TRIP: what any call of the writer wrote, cut into lines, however each of them ends: "Read in order into a fresh record with decoding off"
 abbrev pub RoundTrip : Type 0
 RoundTrip =
     (s : Sent) (calls : List Call) → Calls freshRecord (cutAfterLF (take (s .count) (s .out))) calls → ReadBack s (map answerIn calls)

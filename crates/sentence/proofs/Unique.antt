@@ -1,5 +1,5 @@
--- What a line is answered, by document 01's numbers. The promise, `parsedOf`, is an equation on the answer itself and tells the place too. NOTHING IS LOST of a
--- tag block's end. Assumes nothing.
+-- What a line is answered, by document 01's numbers. The promise, `parsedOf`, is an equation on the answer itself and tells the place too. And of a tag block
+-- nothing is lost: the place after it is told by what was read. Assumes nothing.
 use mathlib.Core.Path.{_≡_, refl, ap, _∙_}
 use mathlib.Core.List.{List, []}
 use Prim.Native.Nat.{ℕ}

@@ -1,4 +1,4 @@
--- What is said to a command of the comparing protocol, and the record that it leaves.
+-- What is said to a command of the comparing protocol, and the record that it leaves. What stands in quotes is its text.
 use Prim.Native.Nat.{ℕ}
 use mathlib.Core.List.{List}
 use Rattle.reassembly.specs.declared.Record.{Record}

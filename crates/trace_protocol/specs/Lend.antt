@@ -1,4 +1,4 @@
--- What is said to `fresh` and `lend`, and the record that they leave.
+-- What is said to `fresh` and `lend`, and the record that they leave. What stands in quotes is the comparing protocol's text.
 use Prim.Native.Nat.{ℕ}
 use mathlib.Core.List.{List}
 use lib.ListN.{replicate}

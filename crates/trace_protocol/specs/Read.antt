@@ -1,4 +1,4 @@
--- What is said to `read`, and the record that it leaves.
+-- What is said to `read`, and the record that it leaves. What stands in quotes is the comparing protocol's text.
 use Prim.Native.Nat.{ℕ}
 use mathlib.Core.List.{List}
 use lib.ListN.{take}

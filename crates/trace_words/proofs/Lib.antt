@@ -2,3 +2,4 @@ pub mod Laws
 pub mod Cuts
 pub mod Readings
 pub mod Fillings
+pub mod Unique
