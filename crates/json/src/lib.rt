@@ -160,7 +160,7 @@ fn tell(
 {
     let mut payload = [0u8; 384];
     let mut bits = [0u8; 288];
-    let s = reader::call(state, line, Decode::On, &mut payload, &mut bits);
+    let s = ais::step(state, line, Decode::On, &mut payload, &mut bits);
     let end = put_answer(out, at, number, s.answer, &bits, state, line, show, tally);
     let after = s.state;
     Next {
@@ -335,7 +335,7 @@ fn sender_sent(found: Record, line: &[u8]) -> Optional
 {
     let mut payload = [0u8; 384];
     let mut bits = [0u8; 288];
-    let s = reader::call(found, line, Decode::Off, &mut payload, &mut bits);
+    let s = ais::step(found, line, Decode::Off, &mut payload, &mut bits);
     let answer = s.answer;
     let sentence = answer.sentence;
     if sentence.sent_bits < 38 {

@@ -5,19 +5,19 @@ use borrow.Author.Needs.{needs}
 use Rattle.json.proofs.sender_sent.Statement.{statement}
 use Rattle.json.proofs.sender_sent.Tie as tie
 
-slice-aggregate-call : tie.Need-slice-aggregate-call
-slice-aggregate-call c = search needs
+slice-aggregate-step : tie.Need-slice-aggregate-step
+slice-aggregate-step c = search needs
 
-slice-aggregate-call-2 : tie.Need-slice-aggregate-call-2
-slice-aggregate-call-2 c = search needs
+slice-aggregate-step-2 : tie.Need-slice-aggregate-step-2
+slice-aggregate-step-2 c = search needs
 
-call-requires : tie.Need-call-requires
-call-requires c κs = search needs
+step-requires : tie.Need-step-requires
+step-requires c κs = search needs
 
 returns : tie.Need-returns
 unfolding plainOf
 returns c =
-    let call = c .before .before .before .before .before .before .call in
+    let call = c .before .before .before .before .before .before .step in
     short-sender (call .result) (call .ensures) (c .if1 .taken)
 
 slice-aggregate-mmsi-of : tie.Need-slice-aggregate-mmsi-of
@@ -29,16 +29,16 @@ mmsi-of-requires c κs = search needs
 returns-2 : tie.Need-returns-2
 unfolding plainOf
 returns-2 c =
-    let call = c .before .before .before .before .before .before .before .before .call in
+    let call = c .before .before .before .before .before .before .before .before .step in
     long-sender (call .result) (call .ensures) (c .before .before .if1 .left) (c .mmsi-of .ensures)
 
 pub sender-sent-spec : {M : Type 1} → statement M
 sender-sent-spec =
     tie.close
     (tie.spec
-    slice-aggregate-call
-    slice-aggregate-call-2
-    call-requires
+    slice-aggregate-step
+    slice-aggregate-step-2
+    step-requires
     returns
     slice-aggregate-mmsi-of
     mmsi-of-requires

@@ -7,14 +7,14 @@ use borrow.Author.Needs.{needs}
 use Rattle.json.proofs.tell.Statement.{statement}
 use Rattle.json.proofs.tell.Tie as tie
 
-slice-aggregate-call : tie.Need-slice-aggregate-call
-slice-aggregate-call c = search needs
+slice-aggregate-step : tie.Need-slice-aggregate-step
+slice-aggregate-step c = search needs
 
-slice-aggregate-call-2 : tie.Need-slice-aggregate-call-2
-slice-aggregate-call-2 c = search needs
+slice-aggregate-step-2 : tie.Need-slice-aggregate-step-2
+slice-aggregate-step-2 c = search needs
 
-call-requires : tie.Need-call-requires
-call-requires c κs = search needs
+step-requires : tie.Need-step-requires
+step-requires c κs = search needs
 
 slice-aggregate-put-answer : tie.Need-slice-aggregate-put-answer
 slice-aggregate-put-answer c = search needs
@@ -35,17 +35,17 @@ returns c =
     let s = called .before .before .before .before .before .before .args in
     let before = text (s .at) (s .out .now) in
     let told = c .before .before .before .before .before .put-answer .ensures in
-    left-same (called .call .result .state) (told .0) (told .1)
-    ∙ ap (laidBy (s .show) (s .number) (s .state) (s .line .now) before (s .tally .now)) (called .call .ensures)
+    left-same (called .step .result .state) (told .0) (told .1)
+    ∙ ap (laidBy (s .show) (s .number) (s .state) (s .line .now) before (s .tally .now)) (called .step .ensures)
     ∙ laid-left (s .show) (s .state) (s .number) (s .line .now) before (s .tally .now)
 
 pub tell-spec : {M : Type 1} → statement M
 tell-spec =
     tie.close
     (tie.spec
-    slice-aggregate-call
-    slice-aggregate-call-2
-    call-requires
+    slice-aggregate-step
+    slice-aggregate-step-2
+    step-requires
     slice-aggregate-put-answer
     put-answer-requires
     same-length
