@@ -4,7 +4,7 @@ use mathlib.Core.Bool.{Bool, true, false}
 use mathlib.Core.List.{List}
 use lib.Dec.{eqb}
 use Rattle.refusal.specs.Words.{pick}
-use Rattle.text_in.specs.Same.{sameAs}
+use Rattle.lines.specs.Same.{sameAs}
 use Rattle.text_out.specs.Text.{ascii}
 use Rattle.inputs.specs.declared.Word.{Word}
 use Rattle.inputs.specs.Words.{wordOf}

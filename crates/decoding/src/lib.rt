@@ -140,11 +140,11 @@ fn asked_by_option(asked: Asked, word: &[u8], i: usize) -> Asked
     ensures { λ r. ⌜ r ≡ optionBy asked (now (word .entry)) i ⌝ }
 {
     let mut a = asked;
-    if text_in::same(word, b"--quiet") {
+    if lines::texts::same(word, b"--quiet") {
         a.quiet = true;
         return a;
     }
-    if text_in::same(word, b"--summary") {
+    if lines::texts::same(word, b"--summary") {
         a.summary = true;
         return a;
     }

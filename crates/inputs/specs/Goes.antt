@@ -62,3 +62,10 @@ Goes source (Next.Line n) used r block = Empties source used r
 Goes source Next.TooLong used r block = Empties source used r
 Goes source Next.Nothing used r block = Reads source used r block
 Goes source Next.Room used r block = r ≡ record { source = source; used = used; way = Way.Failed }
+
+-- the status at the end: 1 where a call failed, also the last write
+abbrev pub Finishes : Way → ℕ → Type 0
+Finishes Way.On r = r ≡ 1
+Finishes Way.Last r = r ≡ 1
+Finishes Way.Ended r = r ≤ 1
+Finishes Way.Failed r = r ≡ 1

@@ -5,7 +5,7 @@ use mathlib.Core.List.{List, _++_}
 use lib.Dec.{eqb, ltb}
 use lib.ListN.{length, getD}
 use Rattle.refusal.specs.Words.{pick}
-use Rattle.text_in.specs.Same.{sameAs}
+use Rattle.lines.specs.Same.{sameAs}
 use Rattle.text_out.specs.Text.{ascii}
 use Rattle.inputs.specs.declared.Word.{Word}
 

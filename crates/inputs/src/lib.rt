@@ -11,7 +11,7 @@ ghost use Rattle.io.specs.Counts.{Counts};
 ghost use lib.ListN.{length};
 ghost use Rattle.text_out.specs.Text.{text, put};
 ghost use Rattle.inputs.specs.Words.{wordOf, isInput, unknownText, namedText};
-ghost use Rattle.inputs.specs.Goes.{isOn, sourceOf, Opens, Empties, Reads, Goes};
+ghost use Rattle.inputs.specs.Goes.{isOn, sourceOf, Opens, Empties, Reads, Goes, Finishes};
 
 // What a word asks: the usage; that the launcher is told the status; an option of the program's own; or an input, a file by its name or `-`.
 pub enum Word {
@@ -28,10 +28,10 @@ const STATUS_FILENO: i32 = 3;
 pub fn word_of(word: &[u8]) -> Word
     ensures { λ r. ⌜ r ≡ wordOf (now (word .entry)) ⌝ }
 {
-    if text_in::same(word, b"--help") {
+    if lines::texts::same(word, b"--help") {
         return Word::Help;
     }
-    if text_in::same(word, b"--status") {
+    if lines::texts::same(word, b"--status") {
         return Word::Status;
     }
     if is_input(word) {
@@ -70,7 +70,7 @@ fn is_readable(program: &[u8], i: usize) -> bool {
 
 // Whether a word names a file.
 fn is_file(word: &[u8]) -> bool {
-    if text_in::same(word, b"-") {
+    if lines::texts::same(word, b"-") {
         return false;
     }
     is_input(word)
@@ -214,7 +214,7 @@ fn name_of(place: usize, name: &mut [u8]) -> usize
 
 // A descriptor of the input that a word names, or a negative number.
 fn open(word: &[u8]) -> i32 {
-    if text_in::same(word, b"-") {
+    if lines::texts::same(word, b"-") {
         return STDIN_FILENO;
     }
     os::open_read(word)
@@ -340,7 +340,9 @@ fn say_room(program: &[u8], number: u64, place: usize) {
 }
 
 // At the end of a run: what was told and is not written yet is written. Answers the status: 0 where all went well, 1 where a call failed.
-pub fn finish(program: &[u8], number: u64, way: Way, out: &[u8], used: usize) -> u8 {
+pub fn finish(program: &[u8], number: u64, way: Way, out: &[u8], used: usize) -> u8
+    ensures { λ r. ⌜ Finishes way r ⌝ }
+{
     match way {
         Way::Failed => return 1,
         Way::On => return 1,

@@ -20,7 +20,7 @@ use Rattle.answer.specs.declared.Answer.{Answer}
 use Rattle.answer.specs.declared.Sentence.{Sentence}
 use Rattle.text_out.specs.Text.{Text, text, put, ascii}
 use Rattle.text_out.specs.Digits.{decimalOf}
-use Rattle.other_sentence.specs.Other.{otherSentence}
+use Rattle.sentence.specs.Other.{otherSentence}
 use Rattle.summary.specs.Tally.{anotherKind, bumped, countedOf}
 use Rattle.parsers.specs.Field.{fieldOf}
 use Rattle.layout_numbers.specs.Optional.{absent, present}

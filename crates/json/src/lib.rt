@@ -276,7 +276,7 @@ fn is_another(code: u8, line: &[u8]) -> bool
     ensures { λ r. ⌜ r ≡ otherOf code (now (line .entry)) ⌝ }
 {
     if code == 2 {
-        return other_sentence::is_other(line);
+        return sentence::other::is_other(line);
     }
     false
 }

@@ -4,3 +4,4 @@ pub mod Ends
 pub mod Ways
 pub mod Callers
 pub mod Unique
+pub mod Same

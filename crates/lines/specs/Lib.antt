@@ -1,3 +1,4 @@
 pub mod Lines
 pub mod Held
 pub mod Collect
+pub mod Same

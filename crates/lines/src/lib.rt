@@ -1,4 +1,6 @@
 // Lines out of blocks of input that were cut anywhere. A collector is a number; the blocks and the line's buffer are lent.
+pub mod texts;
+
 ghost use mathlib.Core.Path.{_≡_};
 ghost use mathlib.Core.List.{[], _∷_, _++_};
 ghost use Prim.Native.Nat.{_+_, min};

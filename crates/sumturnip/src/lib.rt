@@ -1,7 +1,9 @@
 // The static library: the reader and the writer for C and Rust. Numbers and lent bytes come in; numbers and bytes go out. Crates `layout_..`,
 // `record_bytes` and `record_read` flatten what an enum holds.
+pub mod request;
+
 ghost use mathlib.Core.Path.{_≡_};
-ghost use Rattle.layout_request.specs.Request.{requestBy};
+ghost use Rattle.sumturnip.specs.Request.{requestBy};
 ghost use Rattle.record_read.specs.Read.{readIn, readOf};
 ghost use Rattle.sumturnip.specs.Calls.{version, freshenedIn, freshenedOf, fillsIn, unarmsOf, writesOf};
 
@@ -80,8 +82,8 @@ pub extern "C" fn sumturnip_write(
     if answer.len() < 1 {
         return 12;
     }
-    let request = layout_request::request_of(count, talker, report, there, channel, number);
+    let request = request::request_of(count, talker, report, there, channel, number);
     let r = writer::write(request, bits, out);
-    answer[0] = layout_request::written_count(r);
-    layout_request::written_code(r)
+    answer[0] = request::written_count(r);
+    request::written_code(r)
 }

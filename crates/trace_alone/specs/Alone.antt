@@ -4,9 +4,9 @@ use mathlib.Core.List.{List}
 use lib.Dec.{eqb}
 use Rattle.refusal.specs.Words.{pick}
 use Rattle.text_out.specs.Text.{ascii}
-use Rattle.trace_words.specs.Line.{wordAt, countOf}
-use Rattle.text_in.specs.Same.{sameAs}
-use Rattle.trace_words.specs.Hex.{bytesOf, filledOf}
+use Rattle.trace_commands.specs.Line.{wordAt, countOf}
+use Rattle.lines.specs.Same.{sameAs}
+use Rattle.trace_commands.specs.Hex.{bytesOf, filledOf}
 use Rattle.trace_commands.specs.Asked.{bad, withBytes}
 use Rattle.trace_alone.specs.Unarmor.{unarmorSaid}
 use Rattle.trace_write.specs.Write.{writeSaid}

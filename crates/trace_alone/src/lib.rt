@@ -3,7 +3,7 @@ use armour::Unarmored;
 use messages::Message;
 use messages::ParseOutcome;
 use trace_commands::Unarmor;
-use trace_words::Filled;
+use trace_commands::words::Filled;
 ghost use mathlib.Core.Path.{_≡_};
 ghost use Rattle.text_out.specs.Text.{text, put};
 ghost use Rattle.trace_alone.specs.Alone.{decodeSaid, aloneSaid};
@@ -14,13 +14,13 @@ ghost use Rattle.trace_alone.specs.Message.{messageShown, decodedShown};
 pub fn answer_alone(line: &[u8], out: &mut [u8], at: usize) -> usize
     ensures { λ r. ⌜ text r (now (out .exit)) ≡ put (text at (now (out .entry))) (aloneSaid (now (line .entry))) ⌝ }
 {
-    if trace_words::named(line, 0, b"unarmor") {
+    if trace_commands::words::named(line, 0, b"unarmor") {
         return say_unarmor(line, out, at);
     }
-    if trace_words::named(line, 0, b"decode") {
+    if trace_commands::words::named(line, 0, b"decode") {
         return say_decode(line, out, at);
     }
-    if trace_words::named(line, 0, b"write") {
+    if trace_commands::words::named(line, 0, b"write") {
         return trace_write::say_write(line, out, at);
     }
     trace_commands::say_bad(out, at)
@@ -34,7 +34,7 @@ fn say_unarmor(line: &[u8], out: &mut [u8], at: usize) -> usize
         return trace_commands::say_bad(out, at);
     };
     let mut payload = io::buffer();
-    let Filled::Bytes(n) = trace_words::bytes(line, 3, &mut payload) else {
+    let Filled::Bytes(n) = trace_commands::words::bytes(line, 3, &mut payload) else {
         return trace_commands::say_bad(out, at);
     };
     let k = text_out::up_to(n, &payload);
@@ -81,11 +81,11 @@ fn put_message(out: &mut [u8], at: usize, message: Message) -> usize
 fn say_decode(line: &[u8], out: &mut [u8], at: usize) -> usize
     ensures { λ r. ⌜ text r (now (out .exit)) ≡ put (text at (now (out .entry))) (decodeSaid (now (line .entry))) ⌝ }
 {
-    if trace_words::count(line) != 2 {
+    if trace_commands::words::count(line) != 2 {
         return trace_commands::say_bad(out, at);
     }
     let mut payload = io::buffer();
-    let Filled::Bytes(n) = trace_words::bytes(line, 1, &mut payload) else {
+    let Filled::Bytes(n) = trace_commands::words::bytes(line, 1, &mut payload) else {
         return trace_commands::say_bad(out, at);
     };
     let k = text_out::up_to(n, &payload);

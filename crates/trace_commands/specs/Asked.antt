@@ -5,11 +5,11 @@ use lib.Dec.{eqb, leb}
 use Rattle.refusal.specs.Words.{pick}
 use Rattle.text_out.specs.Text.{ascii}
 use Rattle.answer.specs.Answer.{decodeOf}
-use Rattle.trace_words.specs.Line.{wordAt, countOf}
-use Rattle.text_in.specs.Same.{sameAs}
-use Rattle.trace_words.specs.Numbers.{numberOf}
-use Rattle.trace_words.specs.declared.Number.{Number}
-use Rattle.trace_words.specs.declared.Filled.{Filled}
+use Rattle.trace_commands.specs.Line.{wordAt, countOf}
+use Rattle.lines.specs.Same.{sameAs}
+use Rattle.trace_commands.specs.Numbers.{numberOf}
+use Rattle.trace_commands.specs.declared.words.Number.{Number}
+use Rattle.trace_commands.specs.declared.words.Filled.{Filled}
 use Rattle.sentence.specs.declared.Number as message
 use Rattle.trace_commands.specs.declared.Unarmor.{Unarmor}
 use Rattle.trace_commands.specs.declared.Read.{Read}

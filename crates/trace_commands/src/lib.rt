@@ -1,9 +1,11 @@
 // What a command of the comparing protocol asks: the words of its line, read as numbers; and what is said to a line that is no command.
+pub mod words;
+
 use answer::Decode;
 use reassembly::Record;
-use trace_words::Number;
+use words::Number;
 ghost use mathlib.Core.Path.{_≡_};
-ghost use Rattle.trace_words.specs.Line.{wordAt};
+ghost use Rattle.trace_commands.specs.Line.{wordAt};
 ghost use Rattle.trace_commands.specs.Asked.{unarmorAsked, readAsked, idAsked, lendAsked, bad};
 ghost use Rattle.text_out.specs.Text.{text, put};
 
@@ -35,13 +37,13 @@ enum Id {
 pub fn ask_unarmor(line: &[u8]) -> Unarmor
     ensures { λ r. ⌜ r ≡ unarmorAsked (now (line .entry)) ⌝ }
 {
-    if trace_words::count(line) != 4 {
+    if words::count(line) != 4 {
         return Unarmor::Bad;
     }
-    let Number::Of(fill) = trace_words::decimal(line, 1) else {
+    let Number::Of(fill) = words::decimal(line, 1) else {
         return Unarmor::Bad;
     };
-    let Number::Of(room) = trace_words::decimal(line, 2) else {
+    let Number::Of(room) = words::decimal(line, 2) else {
         return Unarmor::Bad;
     };
     if room > 1024 {
@@ -54,16 +56,16 @@ pub fn ask_unarmor(line: &[u8]) -> Unarmor
 pub fn ask_read(line: &[u8]) -> Read
     ensures { λ r. ⌜ r ≡ readAsked (now (line .entry)) ⌝ }
 {
-    if trace_words::count(line) != 5 {
+    if words::count(line) != 5 {
         return Read::Bad;
     }
-    let Number::Of(decode) = trace_words::decimal(line, 1) else {
+    let Number::Of(decode) = words::decimal(line, 1) else {
         return Read::Bad;
     };
-    let Number::Of(room) = trace_words::decimal(line, 2) else {
+    let Number::Of(room) = words::decimal(line, 2) else {
         return Read::Bad;
     };
-    let Number::Of(bit_room) = trace_words::decimal(line, 3) else {
+    let Number::Of(bit_room) = words::decimal(line, 3) else {
         return Read::Bad;
     };
     if decode > 1 {
@@ -82,16 +84,16 @@ pub fn ask_read(line: &[u8]) -> Read
 pub fn ask_lend(line: &[u8]) -> Lend
     ensures { λ r. ⌜ r ≡ lendAsked (now (line .entry)) ⌝ }
 {
-    if trace_words::count(line) != 5 {
+    if words::count(line) != 5 {
         return Lend::Bad;
     }
     let Id::Of(number) = ask_id(line, 1) else {
         return Lend::Bad;
     };
-    let Number::Of(fragment) = trace_words::decimal(line, 2) else {
+    let Number::Of(fragment) = words::decimal(line, 2) else {
         return Lend::Bad;
     };
-    let Number::Of(len) = trace_words::decimal(line, 3) else {
+    let Number::Of(len) = words::decimal(line, 3) else {
         return Lend::Bad;
     };
     if fragment > 255 {
@@ -104,10 +106,10 @@ pub fn ask_lend(line: &[u8]) -> Lend
 fn ask_id(line: &[u8], k: usize) -> Id
     ensures { λ r. ⌜ r ≡ idAsked (wordAt k (now (line .entry))) ⌝ }
 {
-    if trace_words::named(line, k, b"-") {
+    if words::named(line, k, b"-") {
         return Id::Of(sentence::Number::Absent);
     }
-    let Number::Of(n) = trace_words::decimal(line, k) else {
+    let Number::Of(n) = words::decimal(line, k) else {
         return Id::Bad;
     };
     if n > 255 {

@@ -4,8 +4,8 @@ use mathlib.Core.Path.{_≡_, sym, subst}
 use mathlib.Core.Bool.{true, false}
 use mathlib.Core.List.{List}
 use Rattle.text_out.specs.Text.{Text, put, ascii}
-use Rattle.trace_words.specs.Line.{wordAt}
-use Rattle.text_in.specs.Same.{sameAs}
+use Rattle.trace_commands.specs.Line.{wordAt}
+use Rattle.lines.specs.Same.{sameAs}
 use Rattle.reassembly.specs.declared.Record.{Record}
 use Rattle.trace_alone.specs.Alone.{aloneSaid}
 use Rattle.trace_commands.specs.Reply.{Reply, reply}

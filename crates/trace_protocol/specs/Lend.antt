@@ -5,8 +5,8 @@ use lib.ListN.{replicate}
 use lib.Dec.{eqb}
 use Rattle.refusal.specs.Words.{pick, over}
 use Rattle.text_out.specs.Text.{ascii}
-use Rattle.trace_words.specs.Line.{wordAt, countOf}
-use Rattle.trace_words.specs.Hex.{bytesOf, filledOf}
+use Rattle.trace_commands.specs.Line.{wordAt, countOf}
+use Rattle.trace_commands.specs.Hex.{bytesOf, filledOf}
 use Rattle.sentence.specs.declared.Number.{Number}
 use Rattle.reassembly.specs.Record.{recordOf, freshRecord}
 use Rattle.reassembly.specs.declared.Record.{Record}

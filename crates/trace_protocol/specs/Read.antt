@@ -2,8 +2,8 @@
 use Prim.Native.Nat.{ℕ}
 use mathlib.Core.List.{List}
 use lib.ListN.{take}
-use Rattle.trace_words.specs.Line.{wordAt}
-use Rattle.trace_words.specs.Hex.{bytesOf, filledOf}
+use Rattle.trace_commands.specs.Line.{wordAt}
+use Rattle.trace_commands.specs.Hex.{bytesOf, filledOf}
 use Rattle.reassembly.specs.declared.Record.{Record}
 use Rattle.answer.specs.declared.Decode.{Decode}
 use Rattle.ais.specs.Call.{Called, calledOf}

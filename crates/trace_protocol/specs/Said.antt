@@ -3,8 +3,8 @@ use Prim.Native.Nat.{ℕ}
 use mathlib.Core.List.{List}
 use Rattle.refusal.specs.Words.{pick}
 use Rattle.text_out.specs.Text.{ascii}
-use Rattle.trace_words.specs.Line.{wordAt}
-use Rattle.text_in.specs.Same.{sameAs}
+use Rattle.trace_commands.specs.Line.{wordAt}
+use Rattle.lines.specs.Same.{sameAs}
 use Rattle.reassembly.specs.declared.Record.{Record}
 use Rattle.trace_commands.specs.Reply.{Reply, reply}
 use Rattle.trace_alone.specs.Alone.{aloneSaid}

@@ -4,7 +4,7 @@ use reassembly::Record;
 use trace_commands::Answered;
 use trace_commands::Lend;
 use trace_commands::Read;
-use trace_words::Filled;
+use trace_commands::words::Filled;
 ghost use mathlib.Core.Path.{_≡_};
 ghost use Rattle.text_out.specs.Text.{text, put};
 ghost use Rattle.trace_protocol.specs.Lend.{freshReply, lendReply};
@@ -18,13 +18,13 @@ pub fn answer(state: Record, line: &[u8], out: &mut [u8], at: usize) -> Answered
     ensures { λ r. ⌜ text (r .at) (now (out .exit)) ≡ put (text at (now (out .entry))) (saidOf state (now (line .entry))) ⌝ }
     ensures { λ r. ⌜ r .state ≡ keptOf state (now (line .entry)) ⌝ }
 {
-    if trace_words::named(line, 0, b"fresh") {
+    if trace_commands::words::named(line, 0, b"fresh") {
         return say_fresh(state, line, out, at);
     }
-    if trace_words::named(line, 0, b"lend") {
+    if trace_commands::words::named(line, 0, b"lend") {
         return say_lend(state, line, out, at);
     }
-    if trace_words::named(line, 0, b"read") {
+    if trace_commands::words::named(line, 0, b"read") {
         return say_read(state, line, out, at);
     }
     Answered {
@@ -38,7 +38,7 @@ fn say_fresh(state: Record, line: &[u8], out: &mut [u8], at: usize) -> Answered
     ensures { λ r. ⌜ text (r .at) (now (out .exit)) ≡ put (text at (now (out .entry))) (freshReply state (now (line .entry)) .said) ⌝ }
     ensures { λ r. ⌜ r .state ≡ freshReply state (now (line .entry)) .kept ⌝ }
 {
-    if trace_words::count(line) != 1 {
+    if trace_commands::words::count(line) != 1 {
         return trace_commands::no_command(state, out, at);
     }
     let fresh = reassembly::fresh();
@@ -57,7 +57,7 @@ fn say_lend(state: Record, line: &[u8], out: &mut [u8], at: usize) -> Answered
         return trace_commands::no_command(state, out, at);
     };
     let mut bytes = [0u8; 384];
-    let Filled::Bytes(_) = trace_words::bytes(line, 4, &mut bytes) else {
+    let Filled::Bytes(_) = trace_commands::words::bytes(line, 4, &mut bytes) else {
         return trace_commands::no_command(state, out, at);
     };
     Answered {
@@ -75,7 +75,7 @@ fn say_read(state: Record, line: &[u8], out: &mut [u8], at: usize) -> Answered
         return trace_commands::no_command(state, out, at);
     };
     let mut sent = io::buffer();
-    let Filled::Bytes(n) = trace_words::bytes(line, 4, &mut sent) else {
+    let Filled::Bytes(n) = trace_commands::words::bytes(line, 4, &mut sent) else {
         return trace_commands::no_command(state, out, at);
     };
     let k = text_out::up_to(n, &sent);

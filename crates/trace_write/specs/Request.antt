@@ -4,9 +4,9 @@ use mathlib.Core.List.{List}
 use lib.Dec.{eqb, leb}
 use Rattle.refusal.specs.Words.{pick}
 use Rattle.text_out.specs.Text.{ascii}
-use Rattle.trace_words.specs.Line.{wordAt, countOf}
-use Rattle.text_in.specs.Same.{sameAs}
-use Rattle.trace_words.specs.Numbers.{numberOf}
+use Rattle.trace_commands.specs.Line.{wordAt, countOf}
+use Rattle.lines.specs.Same.{sameAs}
+use Rattle.trace_commands.specs.Numbers.{numberOf}
 use Rattle.trace_commands.specs.Asked.{withNumber}
 use Rattle.sentence.specs.declared.TalkerId.{TalkerId}
 use Rattle.sentence.specs.declared.AisReportType.{AisReportType}

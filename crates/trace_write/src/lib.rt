@@ -2,13 +2,13 @@
 use sentence::AisReportType;
 use sentence::Channel;
 use sentence::TalkerId;
-use trace_words::Filled;
-use trace_words::Number;
+use trace_commands::words::Filled;
+use trace_commands::words::Number;
 use writer::Request;
 use writer::Written;
 ghost use mathlib.Core.Path.{_≡_};
 ghost use Rattle.text_out.specs.Text.{text, put};
-ghost use Rattle.trace_words.specs.Line.{wordAt};
+ghost use Rattle.trace_commands.specs.Line.{wordAt};
 ghost use Rattle.trace_write.specs.Write.{writeShown, writeSaid};
 ghost use Rattle.trace_write.specs.Request.{talkerAsked, furtherTalker, reportAsked, channelAsked, requestAsked, writeAsked};
 
@@ -47,7 +47,7 @@ pub fn say_write(line: &[u8], out: &mut [u8], at: usize) -> usize
         return trace_commands::say_bad(out, at);
     };
     let mut payload = io::buffer();
-    let Filled::Bytes(n) = trace_words::bytes(line, 7, &mut payload) else {
+    let Filled::Bytes(n) = trace_commands::words::bytes(line, 7, &mut payload) else {
         return trace_commands::say_bad(out, at);
     };
     let k = text_out::up_to(n, &payload);
@@ -71,13 +71,13 @@ fn show_write(request: Request, bits: &[u8], lent: &mut [u8], out: &mut [u8], at
 fn ask_write(line: &[u8]) -> Asked
     ensures { λ r. ⌜ r ≡ writeAsked (now (line .entry)) ⌝ }
 {
-    if trace_words::count(line) != 8 {
+    if trace_commands::words::count(line) != 8 {
         return Asked::Bad;
     }
     let Wanted::Of(request) = ask_request(line) else {
         return Asked::Bad;
     };
-    let Number::Of(room) = trace_words::decimal(line, 6) else {
+    let Number::Of(room) = trace_commands::words::decimal(line, 6) else {
         return Asked::Bad;
     };
     if room > 1024 {
@@ -90,7 +90,7 @@ fn ask_write(line: &[u8]) -> Asked
 fn ask_request(line: &[u8]) -> Wanted
     ensures { λ r. ⌜ r ≡ requestAsked (now (line .entry)) ⌝ }
 {
-    let Number::Of(count) = trace_words::decimal(line, 1) else {
+    let Number::Of(count) = trace_commands::words::decimal(line, 1) else {
         return Wanted::Bad;
     };
     let Talker::Of(talker) = ask_talker(line) else {
@@ -102,7 +102,7 @@ fn ask_request(line: &[u8]) -> Wanted
     let Way::Of(channel) = ask_channel(line) else {
         return Wanted::Bad;
     };
-    let Number::Of(number) = trace_words::decimal(line, 5) else {
+    let Number::Of(number) = trace_commands::words::decimal(line, 5) else {
         return Wanted::Bad;
     };
     if number > 255 {
@@ -121,19 +121,19 @@ fn ask_request(line: &[u8]) -> Wanted
 fn ask_talker(line: &[u8]) -> Talker
     ensures { λ r. ⌜ r ≡ talkerAsked (wordAt 2 (now (line .entry))) ⌝ }
 {
-    if trace_words::named(line, 2, b"AB") {
+    if trace_commands::words::named(line, 2, b"AB") {
         return Talker::Of(TalkerId::AB);
     }
-    if trace_words::named(line, 2, b"AD") {
+    if trace_commands::words::named(line, 2, b"AD") {
         return Talker::Of(TalkerId::AD);
     }
-    if trace_words::named(line, 2, b"AI") {
+    if trace_commands::words::named(line, 2, b"AI") {
         return Talker::Of(TalkerId::AI);
     }
-    if trace_words::named(line, 2, b"AN") {
+    if trace_commands::words::named(line, 2, b"AN") {
         return Talker::Of(TalkerId::AN);
     }
-    if trace_words::named(line, 2, b"AR") {
+    if trace_commands::words::named(line, 2, b"AR") {
         return Talker::Of(TalkerId::AR);
     }
     ask_further_talker(line)
@@ -143,22 +143,22 @@ fn ask_talker(line: &[u8]) -> Talker
 fn ask_further_talker(line: &[u8]) -> Talker
     ensures { λ r. ⌜ r ≡ furtherTalker (wordAt 2 (now (line .entry))) ⌝ }
 {
-    if trace_words::named(line, 2, b"AS") {
+    if trace_commands::words::named(line, 2, b"AS") {
         return Talker::Of(TalkerId::AS);
     }
-    if trace_words::named(line, 2, b"AT") {
+    if trace_commands::words::named(line, 2, b"AT") {
         return Talker::Of(TalkerId::AT);
     }
-    if trace_words::named(line, 2, b"AX") {
+    if trace_commands::words::named(line, 2, b"AX") {
         return Talker::Of(TalkerId::AX);
     }
-    if trace_words::named(line, 2, b"BS") {
+    if trace_commands::words::named(line, 2, b"BS") {
         return Talker::Of(TalkerId::BS);
     }
-    if trace_words::named(line, 2, b"SA") {
+    if trace_commands::words::named(line, 2, b"SA") {
         return Talker::Of(TalkerId::SA);
     }
-    if trace_words::named(line, 2, b"Unknown") {
+    if trace_commands::words::named(line, 2, b"Unknown") {
         return Talker::Of(TalkerId::Unknown);
     }
     Talker::Bad
@@ -168,13 +168,13 @@ fn ask_further_talker(line: &[u8]) -> Talker
 fn ask_report(line: &[u8]) -> Report
     ensures { λ r. ⌜ r ≡ reportAsked (wordAt 3 (now (line .entry))) ⌝ }
 {
-    if trace_words::named(line, 3, b"VDM") {
+    if trace_commands::words::named(line, 3, b"VDM") {
         return Report::Of(AisReportType::VDM);
     }
-    if trace_words::named(line, 3, b"VDO") {
+    if trace_commands::words::named(line, 3, b"VDO") {
         return Report::Of(AisReportType::VDO);
     }
-    if trace_words::named(line, 3, b"Unknown") {
+    if trace_commands::words::named(line, 3, b"Unknown") {
         return Report::Of(AisReportType::Unknown);
     }
     Report::Bad
@@ -184,16 +184,16 @@ fn ask_report(line: &[u8]) -> Report
 fn ask_channel(line: &[u8]) -> Way
     ensures { λ r. ⌜ r ≡ channelAsked (wordAt 4 (now (line .entry))) ⌝ }
 {
-    if trace_words::named(line, 4, b"-") {
+    if trace_commands::words::named(line, 4, b"-") {
         return Way::Of(Channel::Absent);
     }
-    if trace_words::named(line, 4, b"A") {
+    if trace_commands::words::named(line, 4, b"A") {
         return Way::Of(Channel::Of(65));
     }
-    if trace_words::named(line, 4, b"B") {
+    if trace_commands::words::named(line, 4, b"B") {
         return Way::Of(Channel::Of(66));
     }
-    let Number::Of(byte) = trace_words::decimal(line, 4) else {
+    let Number::Of(byte) = trace_commands::words::decimal(line, 4) else {
         return Way::Bad;
     };
     if byte > 255 {

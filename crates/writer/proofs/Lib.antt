@@ -7,3 +7,4 @@ pub mod Lengths
 pub mod Placed
 pub mod Answers
 pub mod Unique
+pub mod Letters

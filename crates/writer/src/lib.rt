@@ -1,4 +1,6 @@
 // The writer: a message's bits as lines, which the reader gives back. The crate ais has none.
+pub mod written_line;
+
 use refusal::Refusal;
 use sentence::AisReportType;
 use sentence::Channel;

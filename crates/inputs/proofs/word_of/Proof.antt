@@ -7,7 +7,7 @@ use Rattle.inputs.proofs.word_of.Tie as tie
 use Rattle.inputs.proofs.word_of.Reads as reads
 use Rattle.inputs.proofs.word_of.Lts as lts
 use Rattle.inputs.proofs.is_input.Reads as is-input-reads
-use Rattle.text_in.proofs.same.Reads as same-reads
+use Rattle.lines.proofs.texts.same.Reads as same-reads
 
 slice-aggregate-same : tie.Need-slice-aggregate-same
 slice-aggregate-same c = search needs

@@ -1,7 +1,7 @@
 -- `sumturnip::sumturnip_write` meets its contract. Assumes nothing.
 use mathlib.Core.Path.{ap, _∙_}
 use Rattle.writer.specs.declared.Request.{Request}
-use Rattle.layout_request.specs.Request.{requestBy}
+use Rattle.sumturnip.specs.Request.{requestBy}
 use Rattle.sumturnip.specs.Calls.{writesOf}
 use Rattle.sumturnip.proofs.Calls.{count-short, fills-flattened}
 use borrow.Author.Needs.{needs}

@@ -2,10 +2,10 @@
 use mathlib.Core.Path.{sym, ap, _∙_, subst}
 use lib.ListN.{replicate}
 use Rattle.reassembly.specs.Record.{recordOf}
-use Rattle.trace_words.specs.Line.{wordAt}
-use Rattle.trace_words.specs.Hex.{Fills}
-use Rattle.trace_words.specs.declared.Filled.{Filled}
-use Rattle.trace_words.proofs.Laws.{filled-over}
+use Rattle.trace_commands.specs.Line.{wordAt}
+use Rattle.trace_commands.specs.Hex.{Fills}
+use Rattle.trace_commands.specs.declared.words.Filled.{Filled}
+use Rattle.trace_commands.proofs.Laws.{filled-over}
 use borrow.Author.Needs.{needs}
 use Rattle.trace_protocol.proofs.say_lend.Statement.{statement}
 use Rattle.trace_protocol.proofs.say_lend.Tie as tie

@@ -3,10 +3,10 @@ use Prim.Native.Nat.{ℕ}
 use mathlib.Core.Path.{_≡_, sym, ap, _∙_, subst}
 use lib.ListN.{take}
 use Rattle.text_out.proofs.Laws.{take-min}
-use Rattle.trace_words.specs.Line.{wordAt}
-use Rattle.trace_words.specs.Hex.{bytesOf, filledOf, Fills}
-use Rattle.trace_words.specs.declared.Filled.{Filled}
-use Rattle.trace_words.proofs.Laws.{filled-bytes}
+use Rattle.trace_commands.specs.Line.{wordAt}
+use Rattle.trace_commands.specs.Hex.{bytesOf, filledOf, Fills}
+use Rattle.trace_commands.specs.declared.words.Filled.{Filled}
+use Rattle.trace_commands.proofs.Laws.{filled-bytes}
 use borrow.Author.Needs.{needs}
 use Rattle.trace_protocol.proofs.say_read.Statement.{statement}
 use Rattle.trace_protocol.proofs.say_read.Tie as tie

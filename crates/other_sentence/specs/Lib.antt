@@ -1,2 +1,0 @@
-pub mod Other
-pub mod Soundings

@@ -1,5 +1,0 @@
-pub mod Laws
-pub mod Cuts
-pub mod Readings
-pub mod Fillings
-pub mod Unique
