@@ -7,7 +7,7 @@ use Rattle.messages.specs.declared.Message.{Message}
 use Rattle.layout.specs.declared.Layout.{Layout}
 use Rattle.layout.specs.Layout.{messageLayout}
 use Rattle.trace_show.specs.Shown.{refusalShown}
-use Rattle.face_words.specs.Shown.{messageWords}
+use Rattle.trace_show.specs.Message.{messageWords}
 
 abbrev pub laidShown : Layout → List ℕ
 laidShown l = messageWords (l .numbers) (l .texts)

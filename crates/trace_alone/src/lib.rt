@@ -74,7 +74,7 @@ fn put_message(out: &mut [u8], at: usize, message: Message) -> usize
     let laid = layout::lay_message(message);
     let numbers = laid.numbers;
     let texts = laid.texts;
-    face_words::put_message(out, at, &numbers, &texts)
+    trace_show::face::put_message(out, at, &numbers, &texts)
 }
 
 // `decode BYTES`: decoding alone.

@@ -9,8 +9,8 @@ use Rattle.trace_show.specs.Shown.{untouchedIn, keptShown}
 use Rattle.layout.specs.declared.Layout.{Layout}
 use Rattle.layout.specs.Layout.{layoutBy}
 use Rattle.face_rows.specs.Rows.{printed}
-use Rattle.face_words.specs.Tables.{sentenceTable}
-use Rattle.face_words.specs.Shown.{messageWords}
+use Rattle.trace_show.specs.Tables.{sentenceTable}
+use Rattle.trace_show.specs.Message.{messageWords}
 
 -- "PAYLOAD and BITS the bytes that were handed out in the two buffers": the first n of a buffer
 abbrev pub handedShown : ℕ → List ℕ → List ℕ

@@ -99,11 +99,11 @@ fn put_laid(
         (laidShown (now (word .entry)) (now (numbers .entry)) (now (texts .entry)) (now (payload .entry)) n (now (bits .entry)) m) ⌝ }
 {
     let a = text_out::put_bytes(out, at, word);
-    let b = face_words::put_sentence(out, a, numbers, texts);
+    let b = trace_show::face::put_sentence(out, a, numbers, texts);
     let c = put_handed(out, b, payload, n);
     let d = put_handed(out, c, bits, m);
     let e = text_out::put_byte(out, d, b' ');
-    let f = face_words::put_message(out, e, numbers, texts);
+    let f = trace_show::face::put_message(out, e, numbers, texts);
     put_both_kept(out, f, payload, n, bits, m)
 }
 

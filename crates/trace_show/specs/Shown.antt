@@ -9,7 +9,7 @@ use Rattle.refusal.specs.Refusal.{Row}
 use Rattle.text_out.specs.Text.{ascii}
 use Rattle.face_values.specs.Quoted.{shownIn}
 use Rattle.face_rows.specs.Rows.{printed}
-use Rattle.face_words.specs.Tables.{refusalTable}
+use Rattle.trace_show.specs.Tables.{refusalTable}
 
 -- the layout of a refusal alone: its values, its number and their count at their places in an answer's layout, zeros for the rest
 abbrev pub refusalNumbers : Row → List ℕ

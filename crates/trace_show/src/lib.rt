@@ -1,5 +1,7 @@
 // How the comparing protocol shows what a call gives back: a refusal, the record, the bytes that it filled, and whether the lent bytes beyond them are
 // untouched.
+pub mod face;
+
 use reassembly::Record;
 use refusal::Refusal;
 use sentence::Number;
@@ -55,7 +57,7 @@ pub fn put_refusal(out: &mut [u8], at: usize, refusal: Refusal) -> usize
     numbers[1] = v.second;
     numbers[52] = n as u64;
     numbers[53] = v.count;
-    face_words::put_refusal(out, at, &numbers, b"")
+    face::put_refusal(out, at, &numbers, b"")
 }
 
 // What a call filled: a word, the n bytes that it handed out, and KEPT.

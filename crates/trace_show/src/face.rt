@@ -2,8 +2,8 @@
 ghost use mathlib.Core.Path.{_≡_};
 ghost use Rattle.text_out.specs.Text.{text, put};
 ghost use Rattle.face_rows.specs.Rows.{printed};
-ghost use Rattle.face_words.specs.Tables.{sentenceTable, refusalTable, positionTable, staticTable, askedTable, noneTable};
-ghost use Rattle.face_words.specs.Shown.{messageWords};
+ghost use Rattle.trace_show.specs.Tables.{sentenceTable, refusalTable, positionTable, staticTable, askedTable, noneTable};
+ghost use Rattle.trace_show.specs.Message.{messageWords};
 
 // The words of all tables.
 const WORDS: [u8; 155] =

@@ -6,7 +6,7 @@ use lib.ListN.{getD}
 use Rattle.refusal.specs.Words.{pick}
 use Rattle.face_rows.specs.Rows.{Row, printed}
 use Rattle.face_rows.specs.Places.{kind}
-use Rattle.face_words.specs.Tables.{positionTable, staticTable, askedTable, noneTable}
+use Rattle.trace_show.specs.Tables.{positionTable, staticTable, askedTable, noneTable}
 
 abbrev pub tableOf : ℕ → List Row
 tableOf k = pick (eqb k 1) positionTable (pick (eqb k 2) staticTable (pick (eqb k 3) askedTable noneTable))

@@ -1,8 +1,8 @@
--- `face_words::put_none` meets its contract. Assumes nothing.
+-- `trace_show::face::put_position` meets its contract. Assumes nothing.
 use Rattle.face_rows.specs.Code.{rowsIn}
 use borrow.Author.Needs.{needs}
-use Rattle.face_words.proofs.put_none.Statement.{statement}
-use Rattle.face_words.proofs.put_none.Tie as tie
+use Rattle.trace_show.proofs.face.put_position.Statement.{statement}
+use Rattle.trace_show.proofs.face.put_position.Tie as tie
 
 slice-aggregate-put-rows : tie.Need-slice-aggregate-put-rows
 slice-aggregate-put-rows c = search needs
@@ -20,8 +20,8 @@ returns : tie.Need-returns
 unfolding rowsIn
 returns c = c .before .before .put-rows .ensures
 
-pub put-none-spec : {M : Type 1} → statement M
-put-none-spec =
+pub put-position-spec : {M : Type 1} → statement M
+put-position-spec =
     tie.close
     (tie.spec
     slice-aggregate-put-rows

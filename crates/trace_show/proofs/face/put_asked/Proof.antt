@@ -1,8 +1,8 @@
--- `face_words::put_refusal` meets its contract. Assumes nothing.
+-- `trace_show::face::put_asked` meets its contract. Assumes nothing.
 use Rattle.face_rows.specs.Code.{rowsIn}
 use borrow.Author.Needs.{needs}
-use Rattle.face_words.proofs.put_refusal.Statement.{statement}
-use Rattle.face_words.proofs.put_refusal.Tie as tie
+use Rattle.trace_show.proofs.face.put_asked.Statement.{statement}
+use Rattle.trace_show.proofs.face.put_asked.Tie as tie
 
 slice-aggregate-put-rows : tie.Need-slice-aggregate-put-rows
 slice-aggregate-put-rows c = search needs
@@ -20,8 +20,8 @@ returns : tie.Need-returns
 unfolding rowsIn
 returns c = c .before .before .put-rows .ensures
 
-pub put-refusal-spec : {M : Type 1} → statement M
-put-refusal-spec =
+pub put-asked-spec : {M : Type 1} → statement M
+put-asked-spec =
     tie.close
     (tie.spec
     slice-aggregate-put-rows

@@ -1,10 +1,10 @@
--- `face_words::put_message` meets its contract. Assumes nothing.
+-- `trace_show::face::put_message` meets its contract. Assumes nothing.
 use mathlib.Core.Path.{sym, _∙_}
-use Rattle.face_words.specs.Shown.{messageWords}
+use Rattle.trace_show.specs.Message.{messageWords}
 use borrow.Author.Tests.{ne-eqb}
 use borrow.Author.Needs.{needs}
-use Rattle.face_words.proofs.put_message.Statement.{statement}
-use Rattle.face_words.proofs.put_message.Tie as tie
+use Rattle.trace_show.proofs.face.put_message.Statement.{statement}
+use Rattle.trace_show.proofs.face.put_message.Tie as tie
 
 number-at-requires : tie.Need-number-at-requires
 number-at-requires c κs = search needs

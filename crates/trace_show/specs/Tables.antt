@@ -10,7 +10,7 @@ use Rattle.face_rows.specs.Places.{modelTextLength, callsignLength, stations, f
 use Rattle.face_rows.specs.Places.{firstType2, firstOffsetThere2, firstOffset2, secondMmsi, secondMessages, secondType1, secondOffsetThere1}
 use Rattle.face_rows.specs.Places.{secondOffset1, secondType2, secondOffsetThere2, secondOffset2, code, valueCount}
 use Rattle.face_rows.specs.Places.{nameStart, vendorStart, modelTextStart, callsignStart}
-use Rattle.face_words.specs.Words.{words, wordsIf, value, valueIf, spaced, orDash, unlessDash}
+use Rattle.trace_show.specs.Words.{words, wordsIf, value, valueIf, spaced, orDash, unlessDash}
 
 -- "TALKER REPORT TOTAL NUMBER ID CHANNEL FILL CRATETYPE TRUETYPE SENT": "TALKER `AB` .. `SA`, or `Unknown`"; "REPORT `VDM`, `VDO` or `Unknown`"
 abbrev pub sentenceTable : List Row
