@@ -13,7 +13,7 @@ use Rattle.text_out.specs.Text.{text, put}
 use Rattle.text_out.specs.Whole.{Whole}
 use Rattle.text_out.proofs.Whole.{put-whole}
 use Rattle.face_rows.specs.Rows.{Row, printed}
-use Rattle.face_rows.specs.Places.{kind, part}
+use Rattle.layout_numbers.specs.Places.{kind, part}
 use Rattle.face_rows.specs.Bound.{boundOf}
 use Rattle.face_rows.proofs.Bound.{printed-most}
 use Rattle.face_json.specs.Tables.{nothingTable, positionTable, craftTable, staticTable, askedTable}

@@ -5,7 +5,7 @@ use lib.Dec.{eqb}
 use lib.ListN.{getD}
 use Rattle.refusal.specs.Words.{pick}
 use Rattle.face_rows.specs.Rows.{Row, printed}
-use Rattle.face_rows.specs.Places.{kind, part}
+use Rattle.layout_numbers.specs.Places.{kind, part}
 use Rattle.face_json.specs.Tables.{nothingTable, positionTable, craftTable, staticTable, askedTable}
 use Rattle.face_json.specs.Refused.{refusedTable}
 

@@ -1,7 +1,7 @@
 -- A refused line as a JSON object: its number, document 01's number and values, a reason in words, and the line's own text.
 use mathlib.Core.List.{List, _++_}
 use Rattle.face_rows.specs.Rows.{is, isNot, least, number, pair, quoted, Row, group}
-use Rattle.face_rows.specs.Places.{firstValue, secondValue, line, code, valueCount, textLength, textCut, senderThere, sender, anotherKind, textStart}
+use Rattle.layout_numbers.specs.Places.{firstValue, secondValue, line, code, valueCount, textLength, textCut, senderThere, sender, anotherKind, textStart}
 use Rattle.face_rows.specs.Reasons.{reasons}
 use Rattle.face_json.specs.Members.{words, wordsIf, valueIf, member, memberIf, wordsFrom}
 

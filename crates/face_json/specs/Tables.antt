@@ -3,13 +3,13 @@
 use mathlib.Core.List.{List, _++_}
 use lib.ListN.{take, drop}
 use Rattle.face_rows.specs.Rows.{always, is, isNot, least, below, number, signed, tenths, degrees, quoted, letter, float, Row, group}
-use Rattle.face_rows.specs.Places.{talker, report, channelThere, channel, rateThere, rate}
-use Rattle.face_rows.specs.Places.{type, repeat, mmsi, status, turnThere, turn, speedThere, speedRaw, accuracy, longitudeThere, longitudeRaw}
-use Rattle.face_rows.specs.Places.{latitudeThere, latitudeRaw, courseThere, courseRaw, headingThere, heading, second, manoeuvre, raim, line, radio}
-use Rattle.face_rows.specs.Places.{part, shipType, model, serial, toBow, toStern, toPort, toStarboard, nameLength, vendorLength, modelTextLength}
-use Rattle.face_rows.specs.Places.{callsignLength, stations, firstMmsi, firstMessages, firstType1, firstOffsetThere1, firstOffset1, firstType2}
-use Rattle.face_rows.specs.Places.{firstOffsetThere2, firstOffset2, secondMmsi, secondMessages, secondType1, secondOffsetThere1, secondOffset1, secondType2}
-use Rattle.face_rows.specs.Places.{secondOffsetThere2, secondOffset2, nameStart, vendorStart, modelTextStart, callsignStart}
+use Rattle.layout_numbers.specs.Places.{talker, report, channelThere, channel, rateThere, rate}
+use Rattle.layout_numbers.specs.Places.{type, repeat, mmsi, status, turnThere, turn, speedThere, speedRaw, accuracy, longitudeThere, longitudeRaw}
+use Rattle.layout_numbers.specs.Places.{latitudeThere, latitudeRaw, courseThere, courseRaw, headingThere, heading, second, manoeuvre, raim, line, radio}
+use Rattle.layout_numbers.specs.Places.{part, shipType, model, serial, toBow, toStern, toPort, toStarboard, nameLength, vendorLength, modelTextLength}
+use Rattle.layout_numbers.specs.Places.{callsignLength, stations, firstMmsi, firstMessages, firstType1, firstOffsetThere1, firstOffset1, firstType2}
+use Rattle.layout_numbers.specs.Places.{firstOffsetThere2, firstOffset2, secondMmsi, secondMessages, secondType1, secondOffsetThere1, secondOffset1, secondType2}
+use Rattle.layout_numbers.specs.Places.{secondOffsetThere2, secondOffset2, nameStart, vendorStart, modelTextStart, callsignStart}
 use Rattle.face_json.specs.Words.{statuses, thirties, fifties}
 use Rattle.face_json.specs.Members.{words, wordsIf, valueIf, member, memberIf, orNull, unlessNull, leastOrNull, flag, between, wordsFrom}
 use Rattle.face_json.specs.Members.{quotedFrom, kindRows}

@@ -8,8 +8,8 @@ use Rattle.interrogation.specs.declared.Interrogation.{Interrogation}
 use Rattle.messages.specs.declared.AisMessage.{AisMessage}
 use Rattle.answer.specs.Answer.{Progress}
 use Rattle.answer.specs.declared.Sentence.{Sentence}
-use Rattle.layout.specs.Layout.{layoutBy}
-use Rattle.face_rows.specs.Places as at
+use Rattle.layout_answer.specs.Layout.{layoutBy}
+use Rattle.layout_numbers.specs.Places as at
 use Rattle.json.specs.Answer.{typeBy}
 
 pub type-laid : (t : Told Progress) (s : Sentence) (content : AisMessage) (texts : Texts) (i : Interrogation) (line radio : ℕ)

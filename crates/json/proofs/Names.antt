@@ -13,7 +13,7 @@ use Rattle.sentence.specs.declared.AisReportType.{AisReportType}
 use Rattle.text_out.specs.Text.{ascii}
 use Rattle.layout_answer.specs.Sentence.{talkerNumber, reportNumber}
 use Rattle.face_rows.specs.Rows.{printedFrom}
-use Rattle.face_rows.specs.Places as at
+use Rattle.layout_numbers.specs.Places as at
 use Rattle.face_json.specs.Words.{statuses, shipTypes, spelt}
 use Rattle.face_json.specs.Tables.{talkerTable, reportTable, statusTable, shipTable}
 use Rattle.json.specs.Object.{member, null, inQuotes, talkerText, reportText, statusName, shipName}

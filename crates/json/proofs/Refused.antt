@@ -18,7 +18,7 @@ use Rattle.text_out.proofs.Laws.{take-min}
 use Rattle.layout_position.specs.Position.{flagOf}
 use Rattle.face_values.specs.Quoted.{quotedIn, pairIn}
 use Rattle.face_rows.specs.Rows.{Row, Test, is, isNot, least, nothing, number, pair, quoted, row, group, holds, printedFrom}
-use Rattle.face_rows.specs.Places as at
+use Rattle.layout_numbers.specs.Places as at
 use Rattle.face_json.specs.Members as face
 use Rattle.face_rows.specs.Reasons.{reasons}
 use Rattle.face_json.specs.Refused.{valuesTable, checksumTable, typeTable, reasonTable, refusedTable}

@@ -34,12 +34,12 @@ use Rattle.layout_answer.specs.Answer.{numbersBy}
 use Rattle.layout_message.specs.Static.{textBytes}
 use Rattle.layout_message.specs.Message.{messageNumbers}
 use Rattle.layout_message.proofs.Counts.{message-length}
-use Rattle.layout.specs.Layout.{layoutBy}
-use Rattle.layout.specs.declared.Layout.{Layout}
-use Rattle.layout.proofs.Places.{name-starts, vendor-starts, model-starts, callsign-starts}
+use Rattle.layout_answer.specs.Layout.{layoutBy}
+use Rattle.layout_answer.specs.declared.whole.Layout.{Layout}
+use Rattle.layout_answer.proofs.Places.{name-starts, vendor-starts, model-starts, callsign-starts}
 use Rattle.face_values.specs.Quoted.{quotedIn}
 use Rattle.face_rows.specs.Rows.{Row, always, is, number, signed, tenths, degrees, quoted, letter, float, textAt, printed}
-use Rattle.face_rows.specs.Places as at
+use Rattle.layout_numbers.specs.Places as at
 use Rattle.face_json.specs.Members as face
 use Rattle.face_json.specs.Tables.{openedTable, headTable, positionTable, craftMembers as craftRows, craftTable, staticTable, askedTable}
 use Rattle.face_json.specs.Line.{tableOf, messageLine}

@@ -26,8 +26,8 @@ use Rattle.parsers.specs.Field.{fieldOf}
 use Rattle.layout_numbers.specs.Optional.{absent, present}
 use Rattle.layout_numbers.specs.declared.Optional.{Optional}
 use Rattle.layout_position.specs.Position.{flagOf}
-use Rattle.layout.specs.declared.Layout.{Layout}
-use Rattle.layout.specs.Layout.{layoutBy}
+use Rattle.layout_answer.specs.declared.whole.Layout.{Layout}
+use Rattle.layout_answer.specs.Layout.{layoutBy}
 use Rattle.face_json.specs.Line.{messageLine, refusedLine}
 use Rattle.json.specs.Object.{About, messageObject, refusedObject}
 use Rattle.json.specs.declared.Show.{Show}
@@ -77,7 +77,7 @@ lineFor number told sentence message bits = shownLine (layoutBy told sentence me
 abbrev pub answerLine : ℕ → Answer → List ℕ → List ℕ
 answerLine number answer bits = lineFor number (outcomeIn (answer .outcome)) (answer .sentence) (answer .message) bits
 
--- the numbers of a refused line, by their places (face_rows/specs/Places)
+-- the numbers of a refused line, by their places (layout_numbers/specs/Places)
 abbrev pub refusedNumbers : ℕ → ℕ → List ℕ → About → List ℕ
 refusedNumbers number n values about =
     (getD values 0 0 ∷ getD values 1 0 ∷ replicate 48 0)

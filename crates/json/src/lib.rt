@@ -213,7 +213,7 @@ fn put_complete(
         ≡ countedOf (now (tally .entry)) 0 (typeBy (answer .message .content) (answer .message .interrogation)) ⌝ }
 {
     let radio = parsers::field(bits, 149, 19);
-    let laid = layout::lay(answer, number, radio);
+    let laid = layout_answer::whole::lay(answer, number, radio);
     let numbers = laid.numbers;
     let texts = laid.texts;
     summary::count(tally, 0, numbers[17]);

@@ -1,3 +1,5 @@
 pub mod Unique
 pub mod Counts
 pub mod Tells
+pub mod Laid
+pub mod Places

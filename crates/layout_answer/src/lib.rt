@@ -1,4 +1,6 @@
 // What a call answers: its code, 50 numbers (the values of its outcome, its sentence, its message) and 80 bytes of text.
+pub mod whole;
+
 use answer::Answer;
 use answer::Outcome;
 use answer::Plain;

@@ -4,8 +4,8 @@ use mathlib.Core.List.{List}
 use Rattle.refusal.specs.Words.{Told, taken, refused}
 use Rattle.messages.specs.Messages.{decodedOf}
 use Rattle.messages.specs.declared.Message.{Message}
-use Rattle.layout.specs.declared.Layout.{Layout}
-use Rattle.layout.specs.Layout.{messageLayout}
+use Rattle.layout_answer.specs.declared.whole.Layout.{Layout}
+use Rattle.layout_answer.specs.Layout.{messageLayout}
 use Rattle.trace_show.specs.Shown.{refusalShown}
 use Rattle.trace_show.specs.Message.{messageWords}
 

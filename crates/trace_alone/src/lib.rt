@@ -71,7 +71,7 @@ fn put_decoded(out: &mut [u8], at: usize, bytes: &[u8]) -> usize
 fn put_message(out: &mut [u8], at: usize, message: Message) -> usize
     ensures { λ r. ⌜ text r (now (out .exit)) ≡ put (text at (now (out .entry))) (messageShown message) ⌝ }
 {
-    let laid = layout::lay_message(message);
+    let laid = layout_answer::whole::lay_message(message);
     let numbers = laid.numbers;
     let texts = laid.texts;
     trace_show::face::put_message(out, at, &numbers, &texts)

@@ -6,8 +6,8 @@ use lib.ListN.{take, drop}
 use Rattle.ais.specs.Call.{Called}
 use Rattle.face_values.specs.Quoted.{shownIn}
 use Rattle.trace_show.specs.Shown.{untouchedIn, keptShown}
-use Rattle.layout.specs.declared.Layout.{Layout}
-use Rattle.layout.specs.Layout.{layoutBy}
+use Rattle.layout_answer.specs.declared.whole.Layout.{Layout}
+use Rattle.layout_answer.specs.Layout.{layoutBy}
 use Rattle.face_rows.specs.Rows.{printed}
 use Rattle.trace_show.specs.Tables.{sentenceTable}
 use Rattle.trace_show.specs.Message.{messageWords}

@@ -76,7 +76,7 @@ fn put_taken(
         ≡ put (text at (now (out .entry))) (takenShown (now (word .entry)) m (calledIn stepped (now (payload .entry)) (now (bits .entry)))) ⌝ }
 {
     let n = stepped.answer.sentence.payload_len;
-    let laid = layout::lay(stepped.answer, 0, 0);
+    let laid = layout_answer::whole::lay(stepped.answer, 0, 0);
     let numbers = laid.numbers;
     let texts = laid.texts;
     put_laid(out, at, word, &numbers, &texts, payload, n, bits, m)

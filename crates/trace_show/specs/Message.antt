@@ -5,7 +5,7 @@ use lib.Dec.{eqb}
 use lib.ListN.{getD}
 use Rattle.refusal.specs.Words.{pick}
 use Rattle.face_rows.specs.Rows.{Row, printed}
-use Rattle.face_rows.specs.Places.{kind}
+use Rattle.layout_numbers.specs.Places.{kind}
 use Rattle.trace_show.specs.Tables.{positionTable, staticTable, askedTable, noneTable}
 
 abbrev pub tableOf : ℕ → List Row

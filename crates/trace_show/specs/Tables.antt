@@ -1,15 +1,15 @@
 -- What an answer tells, in the words of the comparing protocol.
 use mathlib.Core.List.{List, _++_}
 use Rattle.face_rows.specs.Rows.{is, least, number, signed, hexed, pattern, Row, group}
-use Rattle.face_rows.specs.Places.{firstValue, secondValue, talker, report, total, fragment, idThere, id, channelThere, channel, fill, crateType}
-use Rattle.face_rows.specs.Places.{trueTypeThere, trueType, sentBits, type, repeat, mmsi, status, turnThere, turn, rateThere, rate, direction, speedThere}
-use Rattle.face_rows.specs.Places.{speed, speedRaw, accuracy, longitudeThere, longitude, longitudeRaw, latitudeThere, latitude, latitudeRaw, courseThere}
-use Rattle.face_rows.specs.Places.{course, courseRaw, headingThere, heading, second, manoeuvre, raim, radioKind, sync, timeout, subKind, sub, minute}
-use Rattle.face_rows.specs.Places.{increment, slots, keep, part, shipType, model, serial, toBow, toStern, toPort, toStarboard, nameLength, vendorLength}
-use Rattle.face_rows.specs.Places.{modelTextLength, callsignLength, stations, firstMmsi, firstMessages, firstType1, firstOffsetThere1, firstOffset1}
-use Rattle.face_rows.specs.Places.{firstType2, firstOffsetThere2, firstOffset2, secondMmsi, secondMessages, secondType1, secondOffsetThere1}
-use Rattle.face_rows.specs.Places.{secondOffset1, secondType2, secondOffsetThere2, secondOffset2, code, valueCount}
-use Rattle.face_rows.specs.Places.{nameStart, vendorStart, modelTextStart, callsignStart}
+use Rattle.layout_numbers.specs.Places.{firstValue, secondValue, talker, report, total, fragment, idThere, id, channelThere, channel, fill, crateType}
+use Rattle.layout_numbers.specs.Places.{trueTypeThere, trueType, sentBits, type, repeat, mmsi, status, turnThere, turn, rateThere, rate, direction, speedThere}
+use Rattle.layout_numbers.specs.Places.{speed, speedRaw, accuracy, longitudeThere, longitude, longitudeRaw, latitudeThere, latitude, latitudeRaw, courseThere}
+use Rattle.layout_numbers.specs.Places.{course, courseRaw, headingThere, heading, second, manoeuvre, raim, radioKind, sync, timeout, subKind, sub, minute}
+use Rattle.layout_numbers.specs.Places.{increment, slots, keep, part, shipType, model, serial, toBow, toStern, toPort, toStarboard, nameLength, vendorLength}
+use Rattle.layout_numbers.specs.Places.{modelTextLength, callsignLength, stations, firstMmsi, firstMessages, firstType1, firstOffsetThere1, firstOffset1}
+use Rattle.layout_numbers.specs.Places.{firstType2, firstOffsetThere2, firstOffset2, secondMmsi, secondMessages, secondType1, secondOffsetThere1}
+use Rattle.layout_numbers.specs.Places.{secondOffset1, secondType2, secondOffsetThere2, secondOffset2, code, valueCount}
+use Rattle.layout_numbers.specs.Places.{nameStart, vendorStart, modelTextStart, callsignStart}
 use Rattle.trace_show.specs.Words.{words, wordsIf, value, valueIf, spaced, orDash, unlessDash}
 
 -- "TALKER REPORT TOTAL NUMBER ID CHANNEL FILL CRATETYPE TRUETYPE SENT": "TALKER `AB` .. `SA`, or `Unknown`"; "REPORT `VDM`, `VDO` or `Unknown`"

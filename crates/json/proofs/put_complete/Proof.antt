@@ -3,8 +3,8 @@ use Prim.Native.Nat.{ℕ}
 use mathlib.Core.Path.{ap, _∙_}
 use lib.ListN.{getD}
 use Rattle.answer.specs.Answer.{outcomeIn}
-use Rattle.layout.specs.declared.Layout.{Layout}
-use Rattle.layout.specs.Layout.{layoutOf}
+use Rattle.layout_answer.specs.declared.whole.Layout.{Layout}
+use Rattle.layout_answer.specs.Layout.{layoutOf}
 use Rattle.summary.specs.Tally.{countedOf}
 use Rattle.text_out.specs.Text.{text, put}
 use Rattle.json.specs.Answer.{shownLine}

@@ -1,6 +1,6 @@
 -- `trace_alone::put_message` meets its contract. Assumes nothing.
 use mathlib.Core.Path.{ap, _∙_}
-use Rattle.layout.specs.declared.Layout.{Layout}
+use Rattle.layout_answer.specs.declared.whole.Layout.{Layout}
 use Rattle.text_out.specs.Text.{text, put}
 use Rattle.trace_alone.specs.Message.{laidShown}
 use borrow.Author.Needs.{needs}

@@ -1,7 +1,7 @@
 -- `trace_call::put_taken` meets its contract. Assumes nothing.
 use mathlib.Core.Path.{ap, _∙_}
 use Rattle.ais.specs.Call.{calledIn}
-use Rattle.layout.specs.declared.Layout.{Layout}
+use Rattle.layout_answer.specs.declared.whole.Layout.{Layout}
 use Rattle.text_out.specs.Text.{text, put}
 use Rattle.trace_call.specs.Taken.{takenWith}
 use borrow.Author.Needs.{needs}

@@ -1,8 +1,8 @@
--- `layout::lay` meets its contract. Assumes nothing.
-use Rattle.layout.proofs.Laid.{whole}
+-- `layout_answer::whole::lay` meets its contract. Assumes nothing.
+use Rattle.layout_answer.proofs.Laid.{whole}
 use borrow.Author.Needs.{needs}
-use Rattle.layout.proofs.lay.Statement.{statement}
-use Rattle.layout.proofs.lay.Tie as tie
+use Rattle.layout_answer.proofs.whole.lay.Statement.{statement}
+use Rattle.layout_answer.proofs.whole.lay.Tie as tie
 
 value-count-requires : tie.Need-value-count-requires
 value-count-requires c κs = search needs

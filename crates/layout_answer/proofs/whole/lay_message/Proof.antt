@@ -1,8 +1,8 @@
--- `layout::lay_message` meets its contract. Assumes nothing.
-use Rattle.layout.proofs.Laid.{alone}
+-- `layout_answer::whole::lay_message` meets its contract. Assumes nothing.
+use Rattle.layout_answer.proofs.Laid.{alone}
 use borrow.Author.Needs.{needs}
-use Rattle.layout.proofs.lay_message.Statement.{statement}
-use Rattle.layout.proofs.lay_message.Tie as tie
+use Rattle.layout_answer.proofs.whole.lay_message.Statement.{statement}
+use Rattle.layout_answer.proofs.whole.lay_message.Tie as tie
 
 slice-aggregate-put-message : tie.Need-slice-aggregate-put-message
 slice-aggregate-put-message c = search needs

@@ -1,4 +1,4 @@
--- What stands at the places that the tables read: each name of face_rows/specs/Places is held to the field of the answer that it names. Assumes nothing.
+-- What stands at the places that the tables read: each name of layout_numbers/specs/Places is held to the field of the answer that it names. Assumes nothing.
 use Prim.Native.Nat.{ℕ, _+_}
 use native.Mathlib.Omega.{arith}
 use mathlib.Core.Path.{_≡_, refl, sym, ap, _∙_}
@@ -24,14 +24,14 @@ use Rattle.static_data_report.specs.declared.Texts.{Texts}
 use Rattle.interrogation.specs.Interrogation.{noMessage, noStation}
 use Rattle.interrogation.specs.declared.Interrogation.{Interrogation}
 use Rattle.messages.specs.declared.AisMessage.{AisMessage}
 use Rattle.layout_answer.specs.Sentence.{codeOf, valueCount, talkerNumber, reportNumber, idIn, channelIn, typeIn}
 use Rattle.layout_position.specs.Position.{wordOf, flagOf, readingIn, turnIn, headingIn, directionNumber}
 use Rattle.layout_message.specs.Asked.{offsetIn}
 use Rattle.layout_answer.specs.Answer.{answerNumbers}
 use Rattle.layout_answer.proofs.Counts.{answer-length}
-use Rattle.face_rows.specs.Places as at
-use Rattle.layout.specs.declared.Layout.{Layout}
-use Rattle.layout.specs.Layout.{layoutBy, layoutOf}
+use Rattle.layout_numbers.specs.Places as at
+use Rattle.layout_answer.specs.declared.whole.Layout.{Layout}
+use Rattle.layout_answer.specs.Layout.{layoutBy, layoutOf}
 
 -- places, each with what is to stand there: what does stand at them is that
 abbrev there : List ℕ → List (ℕ × ℕ) → List ℕ
