@@ -3,7 +3,7 @@ use mathlib.Core.List.{List, _++_}
 use Rattle.face_rows.specs.Rows.{is, isNot, least, number, pair, quoted, Row, group}
 use Rattle.layout_numbers.specs.Places.{firstValue, secondValue, line, code, valueCount, textLength, textCut, senderThere, sender, anotherKind, textStart}
 use Rattle.face_rows.specs.Reasons.{reasons}
-use Rattle.face_json.specs.Members.{words, wordsIf, valueIf, member, memberIf, wordsFrom}
+use Rattle.face_members.specs.Members.{words, wordsIf, valueIf, member, memberIf, wordsFrom}
 
 -- "An array structure is represented as square brackets surrounding zero or more values" (RFC 8259): a refusal returns at most two
 abbrev pub valuesTable : List Row

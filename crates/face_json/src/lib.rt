@@ -1,357 +1,252 @@
 // A complete message, and a refused line, as a line of JSON: tables over its layout, numbers and bytes of text.
 ghost use mathlib.Core.Path.{_≡_};
+ghost use lib.ListN.{getD};
 ghost use Rattle.text_out.specs.Text.{text, put};
 ghost use Rattle.face_rows.specs.Rows.{printed};
-ghost use lib.ListN.{getD};
+ghost use Rattle.face_json.specs.Tables.{originTable, headTable, statusMembers, motionMembers, placeMembers, courseMembers, lastTable};
 ghost use Rattle.face_json.specs.Tables.{nothingTable, positionTable, craftTable, staticTable, askedTable};
 ghost use Rattle.face_json.specs.Line.{tableOf, messageLine, refusedLine};
 
-// The words of all tables.
-const WORDS: [u8; 2499] =
-    *b"message number differs from the one beforefill over 5, or fill with empty datarequest outside the writer's limitsfragment number is not the next one\
-      message ends inside a needed fieldmessage type is not decodeda lent output is too smallline breaks the line rulesbyte cannot be unarmored\
-      message type is unknownpayload over 384 bytesline over 1024 bytes,\"accuracy\":false,\"offset2_1\":null,\"offset2_2\":null,\"offset1_1\":null\
-      ,\"offset1_2\":null,\"model_serial\":,\"accuracy\":true,\"maneuver\":null,\"to_starboard\":checksum differs{\"class\":\"ERROR\",\"type2_1\":null\
-      ,\"type1_1\":null,\"heading\":null,\"type2_2\":null,\"type1_2\":null,\"status\":null,\"course_raw\":,\"course\":null{\"class\":\"AIS\",\"raim\":false\
-      ,\"mmsi1\":null,\"mmsi2\":null,\"speed\":null,\"speed_raw\":,\"vendorid\":,\"shiptype\":,\"message\":\",\"raim\":true,\"turn\":null,\"shipname\":\
-      ,\"callsign\":,\"to_stern\":,\"refusal\":,\"lat_raw\":,\"lon_raw\":,\"lat\":null,\"values\":[,\"to_port\":,\"lon\":null,\"partno\":,\"serial\":\
-      ,\"to_bow\":,\"repeat\":,\"second\":,\"radio\":,\"model\":,\"line\":,\"mmsi\":,\"type\":\"}\n],\"status_text\":\"\
-      Reserved for future amendment of Navigational Status for HSC\",\"status_text\":\"Reserved for future amendment of Navigational Status for WIG\"\
-      Noncombatant ship according to RR Resolution No. 18Towing: length exceeds 200m or breadth exceeds 25m,\"status_text\":\"Restricted manoeuverability\"\
-      ,\"status_text\":\"Constrained by her draught\",\"status_text\":\"Reserved for future use\",\"status_text\":\"Under way using engine\"\
-      ,\"status_text\":\"AIS-SART is active\",\"status_text\":\"Engaged in Fishing\",\"status_text\":\"Not under command\"\
-      ,\"status_text\":\"Under way sailing\"NMEA sentence of another kind, No additional information, no additional information\
-      ,\"status_text\":\"At anchor\"Dredging or underwater ops, Reserved for future use, all ships of this type,\"status_text\":\"Aground\"\
-      Anti-pollution equipmentSearch and Rescue vessel,\"status_text\":\"Moored\"Not available (default), Hazardous category A, Hazardous category B\
-      , Hazardous category C, Hazardous category DHigh speed craft (HSC),\"shiptype_text\":nullSpare - Local VesselWing in ground (WIG),\"status_text\":null\
-      ,\"shiptype_text\":\",\"turn_rate\":nullMedical Transport,\"text_cut\":true,\"channel\":null,\"report\":\"VDM\",\"report\":\"VDO\"Law Enforcement\
-      \",\"computed\":\",\"report\":null,\"talker\":\"AB\",\"talker\":\"AD\",\"talker\":\"AI\",\"talker\":\"AN\",\"talker\":\"AR\",\"talker\":\"AS\"\
-      ,\"talker\":\"AT\",\"talker\":\"AX\",\"talker\":\"BS\",\"talker\":\"SA\",\"talker\":nullPleasure Craft,\"checksum\":\"Military opsPilot Vessel\
-      Port TenderDiving opsOther TypePassenger,\"text\":SailingTankerCargoTug{\"class\":\"AIS\",\"line\":";
+// Tables, each with its words. A row in hex: S_T_VV_PP_K_QQ_RR_FFF_LL, as crate `face_rows` reads it.
+const NOTHING_WORDS: [u8; 24] = *b"{\"class\":\"AIS\",\"line\":}\n";
 
-// A row in hex: S_T_VV_PP_K_QQ_RR_FFF_LL, as crate `face_rows` reads it.
-const NOTHING: [u64; 2] = [0x0_0_00_00_1_32_00_9ad_16, 0x0_0_00_00_0_00_00_3e1_02];
+const NOTHING: [u64; 2] = [0x0_0_00_00_1_32_00_000_16, 0x0_0_00_00_0_00_00_016_02];
 
-const POSITION: [u64; 70] = [
-    0x0_0_00_00_1_32_00_9ad_16,
-    0x0_1_03_02_0_00_00_8b7_0e,
+const ORIGIN_WORDS: [u8; 198] =
+    *b",\"report\":\"VDM\",\"report\":\"VDO\",\"report\":null,\"talker\":\"AB\",\"talker\":\"AD\",\"talker\":\"AI\",\"talker\":\"AN\",\"talker\":\"AR\"\
+      ,\"talker\":\"AS\",\"talker\":\"AT\",\"talker\":\"AX\",\"talker\":\"BS\",\"talker\":\"SA\",\"talker\":null";
+
+const ORIGIN: [u64; 16] = [
+    0x0_1_03_02_0_00_00_048_0e,
     0xa_2_03_02_0_00_00_000_00,
-    0x0_1_00_02_0_00_00_927_0e,
-    0x0_1_01_02_0_00_00_89b_0e,
-    0x0_1_02_02_0_00_00_8a9_0e,
-    0x0_1_04_02_0_00_00_8c5_0e,
-    0x0_1_05_02_0_00_00_8d3_0e,
-    0x0_1_06_02_0_00_00_8e1_0e,
-    0x0_1_07_02_0_00_00_8ef_0e,
-    0x0_1_08_02_0_00_00_8fd_0e,
-    0x0_1_09_02_0_00_00_90b_0e,
-    0x0_1_0a_02_0_00_00_919_0e,
-    0x0_1_01_03_0_00_00_852_0f,
+    0x0_1_00_02_0_00_00_0b8_0e,
+    0x0_1_01_02_0_00_00_02c_0e,
+    0x0_1_02_02_0_00_00_03a_0e,
+    0x0_1_04_02_0_00_00_056_0e,
+    0x0_1_05_02_0_00_00_064_0e,
+    0x0_1_06_02_0_00_00_072_0e,
+    0x0_1_07_02_0_00_00_080_0e,
+    0x0_1_08_02_0_00_00_08e_0e,
+    0x0_1_09_02_0_00_00_09c_0e,
+    0x0_1_0a_02_0_00_00_0aa_0e,
+    0x0_1_01_03_0_00_00_000_0f,
     0x2_2_01_03_0_00_00_000_00,
-    0x0_1_00_03_0_00_00_88d_0e,
-    0x0_1_02_03_0_00_00_861_0f,
-    0x0_1_01_08_8_09_00_843_0b,
-    0x0_2_01_08_0_00_00_843_0f,
-    0x0_0_00_00_1_11_00_3d8_08,
-    0x0_0_00_00_1_12_00_3a2_0a,
-    0x0_0_00_00_1_13_00_3d0_08,
-    0x0_2_0f_14_1_14_00_25e_0a,
-    0x0_1_0f_14_0_00_00_25e_0e,
-    0x0_1_00_14_0_00_00_562_27,
-    0x6_3_01_14_0_00_00_000_00,
-    0x5_4_06_14_0_00_00_000_00,
-    0x0_1_01_14_0_00_00_666_1a,
-    0x0_1_02_14_0_00_00_5cf_22,
-    0x0_1_03_14_0_00_00_4e3_2c,
-    0x0_1_04_14_0_00_00_50f_2b,
-    0x0_1_05_14_0_00_00_713_17,
-    0xa_3_06_14_0_00_00_000_00,
-    0x0_1_06_14_0_00_00_6cb_18,
-    0x0_1_07_14_0_00_00_5ac_23,
-    0x0_1_08_14_0_00_00_5f1_22,
-    0x0_1_09_14_0_00_00_3e4_4d,
-    0x0_1_0a_14_0_00_00_431_4d,
-    0x0_1_0b_14_0_00_00_53a_28,
-    0x0_1_0c_14_0_00_00_53a_28,
-    0x0_1_0d_14_0_00_00_53a_28,
-    0x0_1_0e_14_0_00_00_589_23,
-    0x0_3_0f_14_0_00_00_7ec_13,
-    0x0_1_01_15_2_16_00_307_08,
-    0x0_2_01_15_0_00_00_307_0c,
-    0x0_1_01_17_a_18_00_811_0d,
-    0x0_2_01_17_0_00_00_811_11,
-    0x0_1_01_1a_3_1c_00_2bd_09,
-    0x0_2_01_1a_0_00_00_2bd_0d,
-    0x0_0_00_00_1_1c_00_2ca_0d,
-    0x0_1_01_1d_0_00_00_1c3_10,
-    0x0_2_01_1d_0_00_00_15e_11,
-    0x0_1_01_1e_4_20_00_379_07,
-    0x0_2_01_1e_0_00_00_379_0b,
-    0x0_0_00_00_2_20_00_34d_0b,
-    0x0_1_01_21_4_23_00_358_07,
-    0x0_2_01_21_0_00_00_358_0b,
-    0x0_0_00_00_2_23_00_342_0b,
-    0x0_1_01_24_3_26_00_27a_0a,
-    0x0_2_01_24_0_00_00_27a_0e,
-    0x0_0_00_00_1_26_00_26c_0e,
-    0x0_1_01_27_1_28_00_231_0b,
-    0x0_2_01_27_0_00_00_231_0f,
-    0x0_0_00_00_1_29_00_3ac_0a,
-    0x0_2_00_2a_1_2a_00_1d3_0c,
-    0x0_1_00_2a_0_00_00_1d3_10,
-    0x0_1_01_2b_0_00_00_2fb_0c,
-    0x0_2_01_2b_0_00_00_296_0d,
-    0x0_0_00_00_1_33_00_3b6_09,
-    0x0_0_00_00_0_00_00_3e1_02,
+    0x0_1_00_03_0_00_00_01e_0e,
+    0x0_1_02_03_0_00_00_00f_0f,
 ];
 
-const CRAFT: [u64; 137] = [
-    0x0_0_00_00_1_32_00_9ad_16,
-    0x0_1_03_02_0_00_00_8b7_0e,
-    0xa_2_03_02_0_00_00_000_00,
-    0x0_1_00_02_0_00_00_927_0e,
-    0x0_1_01_02_0_00_00_89b_0e,
-    0x0_1_02_02_0_00_00_8a9_0e,
-    0x0_1_04_02_0_00_00_8c5_0e,
-    0x0_1_05_02_0_00_00_8d3_0e,
-    0x0_1_06_02_0_00_00_8e1_0e,
-    0x0_1_07_02_0_00_00_8ef_0e,
-    0x0_1_08_02_0_00_00_8fd_0e,
-    0x0_1_09_02_0_00_00_90b_0e,
-    0x0_1_0a_02_0_00_00_919_0e,
-    0x0_1_01_03_0_00_00_852_0f,
-    0x2_2_01_03_0_00_00_000_00,
-    0x0_1_00_03_0_00_00_88d_0e,
-    0x0_1_02_03_0_00_00_861_0f,
-    0x0_1_01_08_8_09_00_843_0b,
-    0x0_2_01_08_0_00_00_843_0f,
-    0x0_0_00_00_1_11_00_3d8_08,
-    0x0_0_00_00_1_12_00_3a2_0a,
-    0x0_0_00_00_1_13_00_3d0_08,
-    0x0_0_00_00_1_14_00_384_0a,
-    0x0_0_00_00_1_15_00_2e3_0c,
-    0x0_4_64_15_0_00_00_7ff_12,
-    0x0_1_00_15_0_00_00_72a_17,
+const LAST_WORDS: [u8; 52] = *b",\"maneuver\":null,\"raim\":false,\"raim\":true,\"radio\":}\n";
+
+const LAST: [u64; 6] = [
+    0x0_2_00_2a_1_2a_00_000_0c,
+    0x0_1_00_2a_0_00_00_000_10,
+    0x0_1_01_2b_0_00_00_01d_0c,
+    0x0_2_01_2b_0_00_00_010_0d,
+    0x0_0_00_00_1_33_00_029_09,
+    0x0_0_00_00_0_00_00_032_02,
+];
+
+const CRAFT_BODY_WORDS: [u8; 760] =
+    *b"Noncombatant ship according to RR Resolution No. 18Towing: length exceeds 200m or breadth exceeds 25m, No additional information\
+      , no additional informationDredging or underwater ops, Reserved for future use, all ships of this typeAnti-pollution equipmentSearch and Rescue vessel\
+      Not available (default), Hazardous category A, Hazardous category B, Hazardous category C, Hazardous category DHigh speed craft (HSC),\
+      \"shiptype_text\":nullSpare - Local VesselWing in ground (WIG),\"shiptype_text\":\"Medical Transport,\"model_serial\":,\"to_starboard\":\
+      Law EnforcementPleasure Craft,\"callsign\":,\"shiptype\":,\"to_stern\":,\"vendorid\":Military opsPilot Vessel,\"to_port\":Port Tender,\"partno\":\
+      ,\"serial\":,\"to_bow\":Diving opsOther Type,\"model\":PassengerFishingSailingTankerCargoTug}\n";
+
+const CRAFT_BODY: [u64; 115] = [
+    0x0_0_00_00_1_14_00_296_0a,
+    0x0_0_00_00_1_15_00_244_0c,
+    0x0_4_64_15_0_00_00_1d8_12,
+    0x0_1_00_15_0_00_00_116_17,
     0x2_3_01_15_0_00_00_000_00,
     0x1_4_14_15_0_00_00_000_00,
-    0x0_0_00_00_0_00_00_54a_17,
+    0x0_0_00_00_0_00_00_0b7_17,
     0xb_3_14_15_0_00_00_000_00,
     0xa_4_1e_15_0_00_00_000_00,
-    0x0_0_00_00_0_00_00_7d8_14,
-    0x0_1_14_15_0_00_00_6b3_18,
-    0x0_1_15_15_0_00_00_741_16,
-    0x0_1_16_15_0_00_00_757_16,
-    0x0_1_17_15_0_00_00_76d_16,
-    0x0_1_18_15_0_00_00_783_16,
+    0x0_0_00_00_0_00_00_1c4_14,
+    0x0_1_14_15_0_00_00_0ce_18,
+    0x0_1_15_15_0_00_00_12d_16,
+    0x0_1_16_15_0_00_00_143_16,
+    0x0_1_17_15_0_00_00_159_16,
+    0x0_1_18_15_0_00_00_16f_16,
     0x2_3_19_15_0_00_00_000_00,
     0x1_4_1d_15_0_00_00_000_00,
-    0x0_0_00_00_0_00_00_69a_19,
-    0x0_1_1d_15_0_00_00_69a_19,
+    0x0_0_00_00_0_00_00_0b5_19,
+    0x0_1_1d_15_0_00_00_0b5_19,
     0xb_3_1e_15_0_00_00_000_00,
     0xa_4_28_15_0_00_00_000_00,
-    0x0_1_1e_15_0_00_00_5c7_07,
-    0x0_1_1f_15_0_00_00_4b1_06,
-    0x0_1_20_15_0_00_00_4b1_32,
-    0x0_1_21_15_0_00_00_680_1a,
-    0x0_1_22_15_0_00_00_973_0a,
-    0x0_1_23_15_0_00_00_950_0c,
-    0x0_1_24_15_0_00_00_998_07,
-    0x0_1_25_15_0_00_00_935_0e,
-    0x0_1_26_15_0_00_00_3f4_08,
-    0x0_1_27_15_0_00_00_3f4_08,
+    0x0_1_1e_15_0_00_00_2da_07,
+    0x0_1_1f_15_0_00_00_033_06,
+    0x0_1_20_15_0_00_00_033_32,
+    0x0_1_21_15_0_00_00_09b_1a,
+    0x0_1_22_15_0_00_00_2b4_0a,
+    0x0_1_23_15_0_00_00_268_0c,
+    0x0_1_24_15_0_00_00_2e1_07,
+    0x0_1_25_15_0_00_00_22a_0e,
+    0x0_1_26_15_0_00_00_0b7_08,
+    0x0_1_27_15_0_00_00_0b7_08,
     0xb_3_28_15_0_00_00_000_00,
     0xa_4_32_15_0_00_00_000_00,
-    0x0_0_00_00_0_00_00_799_16,
-    0x0_1_28_15_0_00_00_6b3_18,
-    0x0_1_29_15_0_00_00_741_16,
-    0x0_1_2a_15_0_00_00_757_16,
-    0x0_1_2b_15_0_00_00_76d_16,
-    0x0_1_2c_15_0_00_00_783_16,
+    0x0_0_00_00_0_00_00_185_16,
+    0x0_1_28_15_0_00_00_0ce_18,
+    0x0_1_29_15_0_00_00_12d_16,
+    0x0_1_2a_15_0_00_00_143_16,
+    0x0_1_2b_15_0_00_00_159_16,
+    0x0_1_2c_15_0_00_00_16f_16,
     0x2_3_2d_15_0_00_00_000_00,
     0x1_4_31_15_0_00_00_000_00,
-    0x0_0_00_00_0_00_00_69a_19,
-    0x0_1_31_15_0_00_00_630_1b,
+    0x0_0_00_00_0_00_00_0b5_19,
+    0x0_1_31_15_0_00_00_065_1b,
     0xb_3_32_15_0_00_00_000_00,
     0xa_4_3c_15_0_00_00_000_00,
-    0x0_1_32_15_0_00_00_95c_0c,
-    0x0_1_33_15_0_00_00_6fb_18,
-    0x0_1_34_15_0_00_00_9aa_03,
-    0x0_1_35_15_0_00_00_968_0b,
-    0x0_1_36_15_0_00_00_6e3_18,
-    0x0_1_37_15_0_00_00_870_0f,
-    0x0_1_38_15_0_00_00_7c4_14,
-    0x0_1_39_15_0_00_00_7c4_14,
-    0x0_1_3a_15_0_00_00_822_11,
-    0x0_1_3b_15_0_00_00_47e_33,
+    0x0_1_32_15_0_00_00_274_0c,
+    0x0_1_33_15_0_00_00_0fe_18,
+    0x0_1_34_15_0_00_00_2f3_03,
+    0x0_1_35_15_0_00_00_28b_0b,
+    0x0_1_36_15_0_00_00_0e6_18,
+    0x0_1_37_15_0_00_00_21b_0f,
+    0x0_1_38_15_0_00_00_1b0_14,
+    0x0_1_39_15_0_00_00_1b0_14,
+    0x0_1_3a_15_0_00_00_1ea_11,
+    0x0_1_3b_15_0_00_00_000_33,
     0xb_3_3c_15_0_00_00_000_00,
     0xa_4_46_15_0_00_00_000_00,
-    0x0_0_00_00_0_00_00_987_09,
-    0x0_1_3c_15_0_00_00_6b3_18,
-    0x0_1_3d_15_0_00_00_741_16,
-    0x0_1_3e_15_0_00_00_757_16,
-    0x0_1_3f_15_0_00_00_76d_16,
-    0x0_1_40_15_0_00_00_783_16,
+    0x0_0_00_00_0_00_00_2d1_09,
+    0x0_1_3c_15_0_00_00_0ce_18,
+    0x0_1_3d_15_0_00_00_12d_16,
+    0x0_1_3e_15_0_00_00_143_16,
+    0x0_1_3f_15_0_00_00_159_16,
+    0x0_1_40_15_0_00_00_16f_16,
     0x2_3_41_15_0_00_00_000_00,
     0x1_4_45_15_0_00_00_000_00,
-    0x0_0_00_00_0_00_00_69a_19,
-    0x0_1_45_15_0_00_00_630_1b,
+    0x0_0_00_00_0_00_00_0b5_19,
+    0x0_1_45_15_0_00_00_065_1b,
     0xb_3_46_15_0_00_00_000_00,
     0xa_4_50_15_0_00_00_000_00,
-    0x0_0_00_00_0_00_00_9a5_05,
-    0x0_1_46_15_0_00_00_6b3_18,
-    0x0_1_47_15_0_00_00_741_16,
-    0x0_1_48_15_0_00_00_757_16,
-    0x0_1_49_15_0_00_00_76d_16,
-    0x0_1_4a_15_0_00_00_783_16,
+    0x0_0_00_00_0_00_00_2ee_05,
+    0x0_1_46_15_0_00_00_0ce_18,
+    0x0_1_47_15_0_00_00_12d_16,
+    0x0_1_48_15_0_00_00_143_16,
+    0x0_1_49_15_0_00_00_159_16,
+    0x0_1_4a_15_0_00_00_16f_16,
     0x2_3_4b_15_0_00_00_000_00,
     0x1_4_4f_15_0_00_00_000_00,
-    0x0_0_00_00_0_00_00_69a_19,
-    0x0_1_4f_15_0_00_00_630_1b,
+    0x0_0_00_00_0_00_00_0b5_19,
+    0x0_1_4f_15_0_00_00_065_1b,
     0xb_3_50_15_0_00_00_000_00,
     0xa_4_5a_15_0_00_00_000_00,
-    0x0_0_00_00_0_00_00_99f_06,
-    0x0_1_50_15_0_00_00_6b3_18,
-    0x0_1_51_15_0_00_00_741_16,
-    0x0_1_52_15_0_00_00_757_16,
-    0x0_1_53_15_0_00_00_76d_16,
-    0x0_1_54_15_0_00_00_783_16,
+    0x0_0_00_00_0_00_00_2e8_06,
+    0x0_1_50_15_0_00_00_0ce_18,
+    0x0_1_51_15_0_00_00_12d_16,
+    0x0_1_52_15_0_00_00_143_16,
+    0x0_1_53_15_0_00_00_159_16,
+    0x0_1_54_15_0_00_00_16f_16,
     0x2_3_55_15_0_00_00_000_00,
     0x1_4_59_15_0_00_00_000_00,
-    0x0_0_00_00_0_00_00_69a_19,
-    0x0_1_59_15_0_00_00_630_1b,
+    0x0_0_00_00_0_00_00_0b5_19,
+    0x0_1_59_15_0_00_00_065_1b,
     0xb_3_5a_15_0_00_00_000_00,
     0xa_4_64_15_0_00_00_000_00,
-    0x0_0_00_00_0_00_00_97d_0a,
-    0x0_1_5a_15_0_00_00_6b3_18,
-    0x0_1_5b_15_0_00_00_741_16,
-    0x0_1_5c_15_0_00_00_757_16,
-    0x0_1_5d_15_0_00_00_76d_16,
-    0x0_1_5e_15_0_00_00_783_16,
+    0x0_0_00_00_0_00_00_2be_0a,
+    0x0_1_5a_15_0_00_00_0ce_18,
+    0x0_1_5b_15_0_00_00_12d_16,
+    0x0_1_5c_15_0_00_00_143_16,
+    0x0_1_5d_15_0_00_00_159_16,
+    0x0_1_5e_15_0_00_00_16f_16,
     0x2_3_5f_15_0_00_00_000_00,
     0x1_4_63_15_0_00_00_000_00,
-    0x0_0_00_00_0_00_00_69a_19,
-    0x0_1_63_15_0_00_00_64b_1b,
-    0x0_4_64_15_0_00_00_15f_01,
-    0x0_3_64_15_0_00_00_7af_15,
-    0x0_0_00_00_5_1d_14_2d7_0c,
-    0x0_0_00_00_1_16_00_3bf_09,
-    0x0_0_00_00_1_17_00_38e_0a,
-    0x0_0_00_00_5_1e_28_1b3_10,
-    0x0_0_00_00_5_1f_3c_31f_0c,
-    0x0_0_00_00_1_18_00_398_0a,
-    0x0_0_00_00_1_19_00_32b_0c,
-    0x0_0_00_00_1_1a_00_36e_0b,
-    0x0_0_00_00_1_1b_00_1e3_10,
-    0x0_0_00_00_0_00_00_3e1_02,
+    0x0_0_00_00_0_00_00_0b5_19,
+    0x0_1_63_15_0_00_00_080_1b,
+    0x0_4_64_15_0_00_00_19c_01,
+    0x0_3_64_15_0_00_00_19b_15,
+    0x0_0_00_00_5_1d_14_25c_0c,
+    0x0_0_00_00_1_16_00_2c8_09,
+    0x0_0_00_00_1_17_00_2a0_0a,
+    0x0_0_00_00_5_1e_28_1fb_10,
+    0x0_0_00_00_5_1f_3c_238_0c,
+    0x0_0_00_00_1_18_00_2aa_0a,
+    0x0_0_00_00_1_19_00_250_0c,
+    0x0_0_00_00_1_1a_00_280_0b,
+    0x0_0_00_00_1_1b_00_20b_10,
+    0x0_0_00_00_0_00_00_2f6_02,
 ];
 
-const STATIC: [u64; 25] = [
-    0x0_0_00_00_1_32_00_9ad_16,
-    0x0_1_03_02_0_00_00_8b7_0e,
-    0xa_2_03_02_0_00_00_000_00,
-    0x0_1_00_02_0_00_00_927_0e,
-    0x0_1_01_02_0_00_00_89b_0e,
-    0x0_1_02_02_0_00_00_8a9_0e,
-    0x0_1_04_02_0_00_00_8c5_0e,
-    0x0_1_05_02_0_00_00_8d3_0e,
-    0x0_1_06_02_0_00_00_8e1_0e,
-    0x0_1_07_02_0_00_00_8ef_0e,
-    0x0_1_08_02_0_00_00_8fd_0e,
-    0x0_1_09_02_0_00_00_90b_0e,
-    0x0_1_0a_02_0_00_00_919_0e,
-    0x0_1_01_03_0_00_00_852_0f,
-    0x2_2_01_03_0_00_00_000_00,
-    0x0_1_00_03_0_00_00_88d_0e,
-    0x0_1_02_03_0_00_00_861_0f,
-    0x0_1_01_08_8_09_00_843_0b,
-    0x0_2_01_08_0_00_00_843_0f,
-    0x0_0_00_00_1_11_00_3d8_08,
-    0x0_0_00_00_1_12_00_3a2_0a,
-    0x0_0_00_00_1_13_00_3d0_08,
-    0x0_0_00_00_1_14_00_384_0a,
-    0x0_1_00_14_5_1c_00_313_0c,
-    0x0_0_00_00_0_00_00_3e1_02,
+const STATIC_BODY_WORDS: [u8; 24] = *b",\"shipname\":,\"partno\":}\n";
+
+const STATIC_BODY: [u64; 3] = [
+    0x0_0_00_00_1_14_00_00c_0a,
+    0x0_1_00_14_5_1c_00_000_0c,
+    0x0_0_00_00_0_00_00_016_02,
 ];
 
-const ASKED: [u64; 43] = [
-    0x0_0_00_00_1_32_00_9ad_16,
-    0x0_1_03_02_0_00_00_8b7_0e,
-    0xa_2_03_02_0_00_00_000_00,
-    0x0_1_00_02_0_00_00_927_0e,
-    0x0_1_01_02_0_00_00_89b_0e,
-    0x0_1_02_02_0_00_00_8a9_0e,
-    0x0_1_04_02_0_00_00_8c5_0e,
-    0x0_1_05_02_0_00_00_8d3_0e,
-    0x0_1_06_02_0_00_00_8e1_0e,
-    0x0_1_07_02_0_00_00_8ef_0e,
-    0x0_1_08_02_0_00_00_8fd_0e,
-    0x0_1_09_02_0_00_00_90b_0e,
-    0x0_1_0a_02_0_00_00_919_0e,
-    0x0_1_01_03_0_00_00_852_0f,
-    0x2_2_01_03_0_00_00_000_00,
-    0x0_1_00_03_0_00_00_88d_0e,
-    0x0_1_02_03_0_00_00_861_0f,
-    0x0_1_01_08_8_09_00_843_0b,
-    0x0_2_01_08_0_00_00_843_0f,
-    0x0_0_00_00_1_11_00_3d8_08,
-    0x0_0_00_00_1_12_00_3a2_0a,
-    0x0_0_00_00_1_13_00_3d0_08,
-    0x0_3_01_14_1_15_00_2a3_09,
-    0x0_4_01_14_0_00_00_2a3_0d,
-    0x0_3_01_16_1_17_00_222_0b,
-    0x0_4_01_16_0_00_00_222_0f,
-    0x0_1_01_18_1_19_00_191_0d,
-    0x0_2_01_18_0_00_00_191_11,
-    0x0_3_02_16_1_1a_00_24f_0b,
-    0x0_4_02_16_0_00_00_24f_0f,
-    0x0_1_01_1b_1_1c_00_1a2_0d,
-    0x0_2_01_1b_0_00_00_1a2_11,
-    0x0_3_02_14_1_1d_00_2b0_09,
-    0x0_4_02_14_0_00_00_2b0_0d,
-    0x0_3_01_1e_1_1f_00_213_0b,
-    0x0_4_01_1e_0_00_00_213_0f,
-    0x0_1_01_20_1_21_00_16f_0d,
-    0x0_2_01_20_0_00_00_16f_11,
-    0x0_3_02_1e_1_22_00_240_0b,
-    0x0_4_02_1e_0_00_00_240_0f,
-    0x0_1_01_23_1_24_00_180_0d,
-    0x0_2_01_23_0_00_00_180_11,
-    0x0_0_00_00_0_00_00_3e1_02,
+const ASKED_BODY_WORDS: [u8; 156] =
+    *b",\"offset1_1\":null,\"offset1_2\":null,\"offset2_1\":null,\"offset2_2\":null,\"type1_1\":null,\"type1_2\":null,\"type2_1\":null,\"type2_2\":null\
+      ,\"mmsi1\":null,\"mmsi2\":null}\n";
+
+const ASKED_BODY: [u64; 21] = [
+    0x0_3_01_14_1_15_00_080_09,
+    0x0_4_01_14_0_00_00_080_0d,
+    0x0_3_01_16_1_17_00_044_0b,
+    0x0_4_01_16_0_00_00_044_0f,
+    0x0_1_01_18_1_19_00_000_0d,
+    0x0_2_01_18_0_00_00_000_11,
+    0x0_3_02_16_1_1a_00_053_0b,
+    0x0_4_02_16_0_00_00_053_0f,
+    0x0_1_01_1b_1_1c_00_011_0d,
+    0x0_2_01_1b_0_00_00_011_11,
+    0x0_3_02_14_1_1d_00_08d_09,
+    0x0_4_02_14_0_00_00_08d_0d,
+    0x0_3_01_1e_1_1f_00_062_0b,
+    0x0_4_01_1e_0_00_00_062_0f,
+    0x0_1_01_20_1_21_00_022_0d,
+    0x0_2_01_20_0_00_00_022_11,
+    0x0_3_02_1e_1_22_00_071_0b,
+    0x0_4_02_1e_0_00_00_071_0f,
+    0x0_1_01_23_1_24_00_033_0d,
+    0x0_2_01_23_0_00_00_033_11,
+    0x0_0_00_00_0_00_00_09a_02,
 ];
+
+const REFUSED_WORDS: [u8; 523] =
+    *b"message number differs from the one beforefill over 5, or fill with empty datafragment number is not the next onerequest outside the writer's limits\
+      message ends inside a needed fieldNMEA sentence of another kindmessage type is not decodeda lent output is too smallline breaks the line rules\
+      byte cannot be unarmoredmessage type is unknownpayload over 384 bytesline over 1024 bytes,\"text_cut\":truechecksum differs{\"class\":\"ERROR\"\
+      \",\"computed\":\",\"checksum\":\",\"message\":\",\"refusal\":,\"values\":[,\"line\":,\"mmsi\":,\"text\":,\"type\":}\n]";
 
 const REFUSED: [u64; 32] = [
-    0x0_0_00_00_0_00_00_203_10,
-    0x0_0_00_00_1_32_00_3c8_08,
-    0x0_0_00_00_1_34_00_337_0b,
-    0x0_0_00_00_0_00_00_363_0b,
+    0x0_0_00_00_0_00_00_19b_10,
+    0x0_0_00_00_1_32_00_1e8_08,
+    0x0_0_00_00_1_34_00_1d2_0b,
+    0x0_0_00_00_0_00_00_1dd_0b,
     0x0_3_01_35_1_00_00_000_00,
     0x0_3_02_35_1_01_00_035_01,
-    0x0_0_00_00_0_00_00_3e3_01,
-    0x0_1_03_34_9_00_00_943_0d,
-    0x0_1_03_34_9_01_00_87f_0e,
-    0x0_1_03_34_0_00_00_15f_01,
-    0x0_1_0a_34_1_00_00_3d8_08,
-    0x0_1_01_38_1_39_00_3d0_08,
-    0x0_0_00_00_0_00_00_2ef_0c,
-    0x0_1_01_3a_0_00_00_613_1d,
+    0x0_0_00_00_0_00_00_20a_01,
+    0x0_1_03_34_9_00_00_1b9_0d,
+    0x0_1_03_34_9_01_00_1ab_0e,
+    0x0_1_03_34_0_00_00_17c_01,
+    0x0_1_0a_34_1_00_00_200_08,
+    0x0_1_01_38_1_39_00_1f0_08,
+    0x0_0_00_00_0_00_00_1c6_0c,
+    0x0_1_01_3a_0_00_00_0b6_1d,
     0xd_2_01_3a_0_00_00_000_00,
-    0x0_1_01_34_0_00_00_14a_14,
-    0x0_1_02_34_0_00_00_0eb_1a,
-    0x0_1_03_34_0_00_00_1f3_10,
+    0x0_1_01_34_0_00_00_167_14,
+    0x0_1_02_34_0_00_00_108_1a,
+    0x0_1_03_34_0_00_00_18b_10,
     0x0_1_04_34_0_00_00_000_2a,
-    0x0_1_05_34_0_00_00_071_23,
-    0x0_1_06_34_0_00_00_134_16,
+    0x0_1_05_34_0_00_00_04e_23,
+    0x0_1_06_34_0_00_00_151_16,
     0x0_1_07_34_0_00_00_02a_24,
-    0x0_1_08_34_0_00_00_105_18,
+    0x0_1_08_34_0_00_00_122_18,
     0x0_1_09_34_0_00_00_094_22,
-    0x0_1_0a_34_0_00_00_0b6_1b,
-    0x0_1_0b_34_0_00_00_11d_17,
-    0x0_1_0c_34_0_00_00_0d1_1a,
-    0x0_1_0d_34_0_00_00_04e_23,
-    0x0_0_00_00_0_00_00_15f_01,
-    0x0_0_00_00_5_36_00_990_08,
-    0x0_1_01_37_0_00_00_833_10,
-    0x0_0_00_00_0_00_00_3e1_02,
+    0x0_1_0a_34_0_00_00_0d3_1b,
+    0x0_1_0b_34_0_00_00_13a_17,
+    0x0_1_0c_34_0_00_00_0ee_1a,
+    0x0_1_0d_34_0_00_00_071_23,
+    0x0_0_00_00_0_00_00_17c_01,
+    0x0_0_00_00_5_36_00_1f8_08,
+    0x0_1_01_37_0_00_00_17b_10,
+    0x0_0_00_00_0_00_00_208_02,
 ];
 
 // The line of a complete message, by its kind.
@@ -371,14 +266,119 @@ pub fn put_message(out: &mut [u8], at: usize, numbers: &[u64], texts: &[u8]) -> 
 pub fn put_refused(out: &mut [u8], at: usize, numbers: &[u64], texts: &[u8]) -> usize
     ensures { λ r. ⌜ text r (now (out .exit)) ≡ put (text at (now (out .entry))) (refusedLine (now (numbers .entry)) (now (texts .entry))) ⌝ }
 {
-    face_rows::put_rows(out, at, &REFUSED, &WORDS, numbers, texts)
+    face_rows::put_rows(out, at, &REFUSED, &REFUSED_WORDS, numbers, texts)
 }
 
 // A position report.
 fn put_position(out: &mut [u8], at: usize, numbers: &[u64], texts: &[u8]) -> usize
-    ensures { λ r. ⌜ text r (now (out .exit)) ≡ put (text at (now (out .entry))) (printed positionTable (now (numbers .entry)) (now (texts .entry))) ⌝ }
+    ensures { λ r. ⌜ text r (now (out .exit))
+        ≡ put (text at (now (out .entry))) (printed positionTable (now (numbers .entry)) (now (texts .entry))) ⌝ }
 {
-    face_rows::put_rows(out, at, &POSITION, &WORDS, numbers, texts)
+    let a = put_head(out, at, numbers, texts);
+    let b = put_status(out, a, numbers, texts);
+    let c = put_motion(out, b, numbers, texts);
+    let d = put_place(out, c, numbers, texts);
+    let e = put_course(out, d, numbers, texts);
+    put_last(out, e, numbers, texts)
+}
+
+// What every message has.
+fn put_head(out: &mut [u8], at: usize, numbers: &[u64], texts: &[u8]) -> usize
+    ensures { λ r. ⌜ text r (now (out .exit))
+        ≡ put (text at (now (out .entry))) (printed headTable (now (numbers .entry)) (now (texts .entry))) ⌝ }
+{
+    let a = text_out::put_bytes(out, at, b"{\"class\":\"AIS\",\"line\":");
+    let b = face_rows::put_value(out, a, 1, 50, 0, numbers, texts);
+    let c = put_origin(out, b, numbers, texts);
+    let d = text_out::put_bytes(out, c, b",\"channel\":");
+    let e = face_members::value_or_null(out, d, numbers, texts, 8, 8, 9);
+    let f = text_out::put_bytes(out, e, b",\"type\":");
+    let g = face_rows::put_value(out, f, 1, 17, 0, numbers, texts);
+    let h = text_out::put_bytes(out, g, b",\"repeat\":");
+    let i = face_rows::put_value(out, h, 1, 18, 0, numbers, texts);
+    let j = text_out::put_bytes(out, i, b",\"mmsi\":");
+    face_rows::put_value(out, j, 1, 19, 0, numbers, texts)
+}
+
+// The line's talker and report type; most are AI and VDM.
+fn put_origin(out: &mut [u8], at: usize, numbers: &[u64], texts: &[u8]) -> usize
+    ensures { λ r. ⌜ text r (now (out .exit))
+        ≡ put (text at (now (out .entry))) (printed originTable (now (numbers .entry)) (now (texts .entry))) ⌝ }
+{
+    let talker = face_rows::number_at(numbers, 2);
+    let report = face_rows::number_at(numbers, 3);
+    if talker == 3 {
+        if report == 1 {
+            return text_out::put_bytes(out, at, b",\"talker\":\"AI\",\"report\":\"VDM\"");
+        }
+    }
+    face_rows::put_rows(out, at, &ORIGIN, &ORIGIN_WORDS, numbers, texts)
+}
+
+// Of a position report: its status.
+fn put_status(out: &mut [u8], at: usize, numbers: &[u64], texts: &[u8]) -> usize
+    ensures { λ r. ⌜ text r (now (out .exit))
+        ≡ put (text at (now (out .entry))) (printed statusMembers (now (numbers .entry)) (now (texts .entry))) ⌝ }
+{
+    let a = text_out::put_bytes(out, at, b",\"status\":");
+    let b = face_members::unless_null(out, a, numbers, 20, 15);
+    let c = text_out::put_bytes(out, b, b",\"status_text\":");
+    face_members::put_words(out, c, numbers)
+}
+
+// Its rate of turn and its speed.
+fn put_motion(out: &mut [u8], at: usize, numbers: &[u64], texts: &[u8]) -> usize
+    ensures { λ r. ⌜ text r (now (out .exit))
+        ≡ put (text at (now (out .entry))) (printed motionMembers (now (numbers .entry)) (now (texts .entry))) ⌝ }
+{
+    let a = text_out::put_bytes(out, at, b",\"turn\":");
+    let b = face_members::value_or_null(out, a, numbers, texts, 21, 2, 22);
+    let c = text_out::put_bytes(out, b, b",\"turn_rate\":");
+    let d = face_members::value_or_null(out, c, numbers, texts, 23, 10, 24);
+    let e = text_out::put_bytes(out, d, b",\"speed\":");
+    let f = face_members::value_or_null(out, e, numbers, texts, 26, 3, 28);
+    let g = text_out::put_bytes(out, f, b",\"speed_raw\":");
+    face_rows::put_value(out, g, 1, 28, 0, numbers, texts)
+}
+
+// Its position.
+fn put_place(out: &mut [u8], at: usize, numbers: &[u64], texts: &[u8]) -> usize
+    ensures { λ r. ⌜ text r (now (out .exit))
+        ≡ put (text at (now (out .entry))) (printed placeMembers (now (numbers .entry)) (now (texts .entry))) ⌝ }
+{
+    let a = text_out::put_bytes(out, at, b",\"accuracy\":");
+    let b = face_members::put_flag(out, a, numbers, 29);
+    let c = text_out::put_bytes(out, b, b",\"lon\":");
+    let d = face_members::value_or_null(out, c, numbers, texts, 30, 4, 32);
+    let e = text_out::put_bytes(out, d, b",\"lon_raw\":");
+    let f = face_rows::put_value(out, e, 2, 32, 0, numbers, texts);
+    let g = text_out::put_bytes(out, f, b",\"lat\":");
+    let h = face_members::value_or_null(out, g, numbers, texts, 33, 4, 35);
+    let i = text_out::put_bytes(out, h, b",\"lat_raw\":");
+    face_rows::put_value(out, i, 2, 35, 0, numbers, texts)
+}
+
+// Its course and heading.
+fn put_course(out: &mut [u8], at: usize, numbers: &[u64], texts: &[u8]) -> usize
+    ensures { λ r. ⌜ text r (now (out .exit))
+        ≡ put (text at (now (out .entry))) (printed courseMembers (now (numbers .entry)) (now (texts .entry))) ⌝ }
+{
+    let a = text_out::put_bytes(out, at, b",\"course\":");
+    let b = face_members::value_or_null(out, a, numbers, texts, 36, 3, 38);
+    let c = text_out::put_bytes(out, b, b",\"course_raw\":");
+    let d = face_rows::put_value(out, c, 1, 38, 0, numbers, texts);
+    let e = text_out::put_bytes(out, d, b",\"heading\":");
+    let f = face_members::value_or_null(out, e, numbers, texts, 39, 1, 40);
+    let g = text_out::put_bytes(out, f, b",\"second\":");
+    face_rows::put_value(out, g, 1, 41, 0, numbers, texts)
+}
+
+// What is last, by its table: a further member is a row there.
+fn put_last(out: &mut [u8], at: usize, numbers: &[u64], texts: &[u8]) -> usize
+    ensures { λ r. ⌜ text r (now (out .exit))
+        ≡ put (text at (now (out .entry))) (printed lastTable (now (numbers .entry)) (now (texts .entry))) ⌝ }
+{
+    face_rows::put_rows(out, at, &LAST, &LAST_WORDS, numbers, texts)
 }
 
 // A static data report, by its part.
@@ -397,26 +397,29 @@ fn put_part(out: &mut [u8], at: usize, numbers: &[u64], texts: &[u8]) -> usize
 fn put_craft(out: &mut [u8], at: usize, numbers: &[u64], texts: &[u8]) -> usize
     ensures { λ r. ⌜ text r (now (out .exit)) ≡ put (text at (now (out .entry))) (printed craftTable (now (numbers .entry)) (now (texts .entry))) ⌝ }
 {
-    face_rows::put_rows(out, at, &CRAFT, &WORDS, numbers, texts)
+    let a = put_head(out, at, numbers, texts);
+    face_rows::put_rows(out, a, &CRAFT_BODY, &CRAFT_BODY_WORDS, numbers, texts)
 }
 
 // Its other parts.
 fn put_static(out: &mut [u8], at: usize, numbers: &[u64], texts: &[u8]) -> usize
     ensures { λ r. ⌜ text r (now (out .exit)) ≡ put (text at (now (out .entry))) (printed staticTable (now (numbers .entry)) (now (texts .entry))) ⌝ }
 {
-    face_rows::put_rows(out, at, &STATIC, &WORDS, numbers, texts)
+    let a = put_head(out, at, numbers, texts);
+    face_rows::put_rows(out, a, &STATIC_BODY, &STATIC_BODY_WORDS, numbers, texts)
 }
 
 // An interrogation.
 fn put_asked(out: &mut [u8], at: usize, numbers: &[u64], texts: &[u8]) -> usize
     ensures { λ r. ⌜ text r (now (out .exit)) ≡ put (text at (now (out .entry))) (printed askedTable (now (numbers .entry)) (now (texts .entry))) ⌝ }
 {
-    face_rows::put_rows(out, at, &ASKED, &WORDS, numbers, texts)
+    let a = put_head(out, at, numbers, texts);
+    face_rows::put_rows(out, a, &ASKED_BODY, &ASKED_BODY_WORDS, numbers, texts)
 }
 
 // A message that tells nothing.
 fn put_nothing(out: &mut [u8], at: usize, numbers: &[u64], texts: &[u8]) -> usize
     ensures { λ r. ⌜ text r (now (out .exit)) ≡ put (text at (now (out .entry))) (printed nothingTable (now (numbers .entry)) (now (texts .entry))) ⌝ }
 {
-    face_rows::put_rows(out, at, &NOTHING, &WORDS, numbers, texts)
+    face_rows::put_rows(out, at, &NOTHING, &NOTHING_WORDS, numbers, texts)
 }

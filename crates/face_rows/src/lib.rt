@@ -72,7 +72,7 @@ fn holds(numbers: &[u64], row: u64) -> bool
 }
 
 // A value: of a form, from a place, with a second place for a text's start.
-fn put_value(
+pub fn put_value(
     out: &mut [u8],
     at: usize,
     form: u64,

@@ -1,24 +1,20 @@
 -- The rows that tell a number in words say what json/specs/Object says of it. Assumes nothing.
-use Prim.Native.Nat.{ℕ, min}
-use native.Mathlib.Omega.{arith}
+use Prim.Native.Nat.{ℕ}
 use mathlib.Core.Path.{_≡_, refl, ap}
-use mathlib.Core.Bool.{Bool, true, false}
 use mathlib.Core.List.{List, [], _∷_}
-use lib.Dec.{leb, ltb}
 use lib.ListN.{getD}
-use borrow.Author.Tests.{leb-true, leb-false, le-ltb}
-use Rattle.refusal.specs.Words.{pick}
 use Rattle.sentence.specs.declared.TalkerId.{TalkerId}
 use Rattle.sentence.specs.declared.AisReportType.{AisReportType}
 use Rattle.text_out.specs.Text.{ascii}
 use Rattle.layout_answer.specs.Sentence.{talkerNumber, reportNumber}
 use Rattle.face_rows.specs.Rows.{printedFrom}
 use Rattle.layout_numbers.specs.Places as at
-use Rattle.face_json.specs.Words.{statuses, shipTypes, spelt}
-use Rattle.face_json.specs.Tables.{talkerTable, reportTable, statusTable, shipTable}
-use Rattle.json.specs.Object.{member, null, inQuotes, talkerText, reportText, statusName, shipName}
-use Rattle.json.proofs.Says.{Says}
-use Rattle.json.proofs.Chosen.{Tells, chosen-says}
+use Rattle.face_members.specs.Words.{shipTypes}
+use Rattle.face_members.proofs.Statuses.{capped}
+use Rattle.face_json.specs.Tables.{talkerTable, reportTable, shipTable}
+use Rattle.json.specs.Object.{member, inQuotes, talkerText, reportText, shipName}
+use Rattle.face_rows.proofs.Says.{Says}
+use Rattle.face_rows.proofs.Chosen.{Tells, chosen-says}
 
 -- ---- by a list: nothing is said of a number beyond it
 abbrev listed : List (List ℕ) → ℕ → List ℕ
@@ -71,23 +67,6 @@ module _ {numbers texts : List ℕ} where
   report-says AisReportType.VDO e = chosen-says at.report 3 reportTable reports reports-told 2 e refl
 
 -- ---- null from a number on
-capped : (cap n : ℕ) (f : ℕ → List ℕ) → pick (ltb (min n cap) cap) (f (min n cap)) null ≡ pick (ltb n cap) (f n) null
-capped cap n f = go (leb n cap) refl
-  where
-    go : (b : Bool) → leb n cap ≡ b → pick (ltb (min n cap) cap) (f (min n cap)) null ≡ pick (ltb n cap) (f n) null
-    go true e = let z : min n cap ≡ n = omega (arith, leb-true n cap e) in rw z
-    go false e =
-        let l = leb-false n cap e in
-        let z : min n cap ≡ cap = omega arith in
-        rw (z, le-ltb cap cap (omega arith), le-ltb n cap (omega arith))
-
-abbrev statusBy : ℕ → List ℕ
-statusBy k = member "status_text" (statusName k)
-
-statuses-told : Tells at.status 15 statusTable statusBy
-unfolding printedFrom
-statuses-told = tt
-
 abbrev shipBy : ℕ → List ℕ
 shipBy k = member "shiptype_text" (shipName k)
 
@@ -96,11 +75,6 @@ unfolding printedFrom
 ships-told = tt
 
 module _ {numbers texts : List ℕ} (n : ℕ) where
-  pub status-says : getD numbers at.status 0 ≡ n → Says numbers texts statusTable (statusBy n)
-  status-says e =
-      let same = capped 15 n (λ (k : ℕ). inQuotes (getD (spelt statuses) k [])) in
-      chosen-says at.status 15 statusTable statusBy statuses-told n e (ap (member "status_text") same)
-
   pub ship-says : getD numbers at.shipType 0 ≡ n → Says numbers texts shipTable (shipBy n)
   ship-says e =
       let same = capped 100 n (λ (k : ℕ). inQuotes (getD shipTypes k [])) in

@@ -13,7 +13,7 @@ use lib.Pow.{pow-mono, pow-pos}
 use Rattle.navigation.specs.Navigation.{rootOf}
 use Rattle.layout_position.specs.Position.{patternOf}
 use Rattle.face_values.specs.Rate.{patterns, significandOf, shiftOf, billionthsOf}
-use Rattle.json.proofs.Chosen.{upTo, at-most}
+use Rattle.face_rows.proofs.Chosen.{upTo, at-most}
 
 -- a whole count n is near to x / 2 ^ s, where a step is 10 ^ 9 / 2 ^ s: both are multiplied by 2 ^ s, and a quarter of a step by 4
 pub record Near (n x s : ℕ) : Type 0 where

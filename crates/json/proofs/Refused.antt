@@ -19,14 +19,15 @@ use Rattle.layout_position.specs.Position.{flagOf}
 use Rattle.face_values.specs.Quoted.{quotedIn, pairIn}
 use Rattle.face_rows.specs.Rows.{Row, Test, is, isNot, least, nothing, number, pair, quoted, row, group, holds, printedFrom}
 use Rattle.layout_numbers.specs.Places as at
-use Rattle.face_json.specs.Members as face
+use Rattle.face_members.specs.Members as face
 use Rattle.face_rows.specs.Reasons.{reasons}
 use Rattle.face_json.specs.Refused.{valuesTable, checksumTable, typeTable, reasonTable, refusedTable}
 use Rattle.face_json.specs.Line.{refusedLine}
 use Rattle.json.specs.Object.{member, array, inQuotes, reasonOf, sumMembers, typeMembers, textMembers, About, refusedObject}
 use Rattle.json.specs.Answer.{refusedNumbers}
-use Rattle.json.proofs.Says.{Says, _then_, whole, said, row-says, row-silent, group-says, group-silent, words-say, member-says, member-if-says}
-use Rattle.json.proofs.Chosen.{Tells, chosen-says}
+use Rattle.face_rows.proofs.Says.{Says, _then_, whole, said, row-says, row-silent, group-says, group-silent}
+use Rattle.face_members.proofs.Members.{words-say, member-says, member-if-says}
+use Rattle.face_rows.proofs.Chosen.{Tells, chosen-says}
 
 -- at most two values
 module _ {numbers texts : List ℕ} where

@@ -40,16 +40,17 @@ use Rattle.layout_answer.proofs.Places.{name-starts, vendor-starts, model-start
 use Rattle.face_values.specs.Quoted.{quotedIn}
 use Rattle.face_rows.specs.Rows.{Row, always, is, number, signed, tenths, degrees, quoted, letter, float, textAt, printed}
 use Rattle.layout_numbers.specs.Places as at
-use Rattle.face_json.specs.Members as face
+use Rattle.face_members.specs.Members as face
 use Rattle.face_json.specs.Tables.{openedTable, headTable, positionTable, craftMembers as craftRows, craftTable, staticTable, askedTable}
 use Rattle.face_json.specs.Line.{tableOf, messageLine}
 use Rattle.json.specs.Answer.{lineFor}
 use Rattle.json.specs.Object.{member, spelled, opened, head, positionObject, partNumber, craftMembers}
 use Rattle.json.specs.Object.{partMembers, staticObject, stationsOf, askedOf, tellAt, askedObject, messageObject}
 use Rattle.json.proofs.Sound.{PositionSound, TextsSound, AskedSound, ContentSound, Sound}
-use Rattle.json.proofs.Says.{Says, _then_, whole, said, row-says, row-silent, words-say, member-says, member-if-says, or-null-says}
-use Rattle.json.proofs.Says.{unless-null-says, least-or-null-says, flag-says}
-use Rattle.json.proofs.Names.{talker-says, report-says, status-says, ship-says}
+use Rattle.face_rows.proofs.Says.{Says, _then_, whole, said, row-says, row-silent}
+use Rattle.face_members.proofs.Members.{words-say, member-says, member-if-says, or-null-says, unless-null-says, least-or-null-says, flag-says}
+use Rattle.face_json.proofs.Statuses.{status-says}
+use Rattle.json.proofs.Names.{talker-says, report-says, ship-says}
 use Rattle.json.proofs.Values.{signed-said, degrees-said, reading-said, rate-said, channel-said, turn-said, heading-said}
 use Rattle.json.proofs.Values.{manoeuvre-said, dgps-said, flag-said}
 use Rattle.json.proofs.Values.{text-said, mmsiTold, typeTold, offsetTold, first-said, second-said, first-offset, second-offset, of-first, of-second}

@@ -41,7 +41,7 @@ use Rattle.face_values.specs.Point.{tenthsIn, fixed}
 use Rattle.face_values.specs.Rate.{rateIn}
 use Rattle.face_values.specs.Quoted.{quotedIn, pairIn}
 use Rattle.face_rows.specs.Reasons.{reasons}
-use Rattle.face_json.specs.Words.{statuses, shipTypes, spelt}
+use Rattle.face_members.specs.Words.{statuses, shipTypes, spelt}
 
 -- a member after another, by RFC 8259: "A single colon comes after each name", and "A single comma separates a value from a following name"
 abbrev pub member : String → List ℕ → List ℕ

@@ -1,8 +1,13 @@
 -- `face_json::put_static` meets its contract. Assumes nothing.
 use Rattle.face_rows.specs.Code.{rowsIn}
+use Rattle.face_json.specs.Tables.{headTable, staticBody}
+use Rattle.face_members.proofs.Shown.{_next_, all-shown, rows-shown}
 use borrow.Author.Needs.{needs}
 use Rattle.face_json.proofs.put_static.Statement.{statement}
 use Rattle.face_json.proofs.put_static.Tie as tie
+
+put-head-requires : tie.Need-put-head-requires
+put-head-requires c κs = search needs
 
 slice-aggregate-put-rows : tie.Need-slice-aggregate-put-rows
 slice-aggregate-put-rows c = search needs
@@ -18,12 +23,19 @@ same-length c = search needs
 
 returns : tie.Need-returns
 unfolding rowsIn
-returns c = c .before .before .put-rows .ensures
+returns c =
+    let done = c .before .before in
+    let first = done .before .before .before .before .before .before in
+    let s = first .before .before .before .before .before .args in
+    let n = s .numbers .now in
+    let t = s .texts .now in
+    all-shown (rows-shown n t headTable tt (first .put-head .ensures) next rows-shown n t staticBody tt (done .put-rows .ensures))
 
 pub put-static-spec : {M : Type 1} → statement M
 put-static-spec =
     tie.close
     (tie.spec
+    put-head-requires
     slice-aggregate-put-rows
     slice-aggregate-put-rows-2
     put-rows-requires

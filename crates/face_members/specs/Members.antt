@@ -3,7 +3,7 @@ use Prim.Native.Nat.{ℕ, suc, _+_}
 use Prim.Native.String.{String}
 use mathlib.Core.List.{List, [], _∷_, _++_}
 use Rattle.text_out.specs.Text.{ascii}
-use Rattle.face_json.specs.Words.{hazards, reserved}
+use Rattle.face_members.specs.Words.{hazards, reserved}
 use Rattle.face_rows.specs.Rows.{Test, always, is, isNot, least, below, Value, nothing, number, Row, row, group}
 
 -- words alone, and words where a test holds
@@ -27,17 +27,21 @@ member name v = row always (key name) v ∷ []
 abbrev pub memberIf : Test → String → Value → List Row
 memberIf t name v = row t (key name) v ∷ []
 
+-- what is absent
+abbrev pub null : List ℕ
+null = ascii "null"
+
 -- a value where the number at `there` is 1, else null
 abbrev pub orNull : String → ℕ → Value → List Row
-orNull name there v = row (is there 1) (key name) v ∷ row (isNot there 1) (key name ++ ascii "null") nothing ∷ []
+orNull name there v = row (is there 1) (key name) v ∷ row (isNot there 1) (key name ++ null) nothing ∷ []
 
 -- the number at a place, where `none` is the one that stands for none
 abbrev pub unlessNull : String → ℕ → ℕ → List Row
-unlessNull name place none = row (isNot place none) (key name) (number place) ∷ row (is place none) (key name ++ ascii "null") nothing ∷ []
+unlessNull name place none = row (isNot place none) (key name) (number place) ∷ row (is place none) (key name ++ null) nothing ∷ []
 
 -- a value where the number at a place is at least n, else null
 abbrev pub leastOrNull : String → ℕ → ℕ → Value → List Row
-leastOrNull name place n v = row (least place n) (key name) v ∷ row (below place n) (key name ++ ascii "null") nothing ∷ []
+leastOrNull name place n v = row (least place n) (key name) v ∷ row (below place n) (key name ++ null) nothing ∷ []
 
 -- whether the number at a place is 1
 abbrev pub flag : String → ℕ → List Row

@@ -2,7 +2,9 @@
 use Prim.Native.Nat.{ℕ, zero, suc}
 use Prim.Native.String.{String}
 use mathlib.Core.List.{List, [], _∷_, _++_}
-use lib.ListN.{replicate}
+use lib.Dec.{ltb}
+use lib.ListN.{getD, replicate}
+use Rattle.refusal.specs.Words.{pick}
 use Rattle.text_out.specs.Text.{ascii}
 
 -- 'Navigation Status', from 0 on; 15 is "Not defined"
@@ -59,6 +61,10 @@ fifties =
 abbrev pub spelt : List String → List (List ℕ)
 spelt [] = []
 spelt (w ∷ l) = ascii w ∷ spelt l
+
+-- a status in quotes; from 15 on there is none
+abbrev pub statusWord : ℕ → List ℕ
+statusWord n = pick (ltb n 15) (ascii "\"" ++ getD (spelt statuses) n [] ++ ascii "\"") (ascii "null")
 
 -- a name before each of some words
 abbrev pub named : String → List String → List (List ℕ)

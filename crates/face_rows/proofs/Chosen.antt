@@ -10,13 +10,9 @@ use lib.ListN.{length, getD, replicate, length-replicate}
 use lib.Seq.{getD-append-add}
 use borrow.Author.Tests.{leb-true, leb-false, le-ltb, le-leb, ne-eqb}
 use Rattle.refusal.specs.Words.{pick}
 use Rattle.face_rows.specs.Rows.{Test, always, is, isNot, least, below, Value, nothing, number, signed, tenths, degrees, quoted, hexed, pattern}
 use Rattle.face_rows.specs.Rows.{letter, pair, float, Row, holds, valueText, rowText, printed, printedFrom}
-use Rattle.json.proofs.Says.{Says}
-
-both : (a b : Bool) → T (a && b) → T a × T b
-both true b h = (tt, h)
-both false b h = absurd h
+use Rattle.face_rows.proofs.Says.{Says, said, both, closed, own-says}
 
 -- ---- rows that say the same over two layouts
 -- a test of the one place, against a number that the cap is not below
@@ -40,10 +36,10 @@ isNothing (letter p) = false
 isNothing (pair p) = false
 isNothing (float p) = false
 
--- rows of such tests, with words alone, whose groups end within them
+-- rows of such tests, with words alone
 abbrev tellable : ℕ → ℕ → List Row → Bool
 tellable place cap [] = true
-tellable place cap (r ∷ rows) = (capped place cap (r .when) && isNothing (r .value)) && (leb (r .span) (length rows) && tellable place cap rows)
+tellable place cap (r ∷ rows) = (capped place cap (r .when) && isNothing (r .value)) && tellable place cap rows
 
 -- a layout with one number
 abbrev only : ℕ → ℕ → List ℕ
@@ -128,37 +124,18 @@ module _ (numbers texts : List ℕ) (place cap n : ℕ) (there : getD numbers pl
 
   -- the parts of what is asked of a first row
   parts : (r : Row) (rows : List Row) → T (tellable place cap (r ∷ rows))
-      → (T (capped place cap (r .when)) × T (isNothing (r .value))) × (T (leb (r .span) (length rows)) × T (tellable place cap rows))
+      → (T (capped place cap (r .when)) × T (isNothing (r .value))) × T (tellable place cap rows)
   parts r rows h =
-      let a = both (capped place cap (r .when) && isNothing (r .value)) (leb (r .span) (length rows) && tellable place cap rows) h in
-      (both (capped place cap (r .when)) (isNothing (r .value)) (a .0), both (leb (r .span) (length rows)) (tellable place cap rows) (a .1))
+      let a = both (capped place cap (r .when) && isNothing (r .value)) (tellable place cap rows) h in
+      (both (capped place cap (r .when)) (isNothing (r .value)) (a .0), a .1)
 
   printed-same : (k : ℕ) (rows : List Row) → T (tellable place cap rows) → printedFrom k rows numbers texts ≡ printedFrom k rows lone []
   unfolding printedFrom
   printed-same k [] h = refl
   printed-same zero (r ∷ rows) h =
       let a = parts r rows h in
-      rw (same (r .when) (a .0 .0), silent (r .value) (a .0 .1), printed-same 0 rows (a .1 .1), printed-same (r .span) rows (a .1 .1))
-  printed-same (suc k) (r ∷ rows) h = printed-same k rows (parts r rows h .1 .1)
-
-  -- rows after them
-  followed : (k : ℕ) (rows rest : List Row) → T (tellable place cap rows) → k ≤ length rows
-      → printedFrom k (rows ++ rest) numbers texts ≡ printedFrom k rows numbers texts ++ printedFrom 0 rest numbers texts
-  unfolding printedFrom
-  followed zero [] rest h l = refl
-  followed (suc k) [] rest h l = absurd (omega arith)
-  followed zero (r ∷ rows) rest h l =
-      let a = parts r rows h in
-      let span = leb→le (r .span) (length rows) (a .1 .0) in
-      go (holds numbers (r .when)) (followed 0 rows rest (a .1 .1) (omega arith)) (followed (r .span) rows rest (a .1 .1) span)
-    where
-      go : (b : Bool) → printedFrom 0 (rows ++ rest) numbers texts ≡ printedFrom 0 rows numbers texts ++ printedFrom 0 rest numbers texts
-          → printedFrom (r .span) (rows ++ rest) numbers texts ≡ printedFrom (r .span) rows numbers texts ++ printedFrom 0 rest numbers texts
-          → pick b (rowText numbers texts r ++ printedFrom 0 (rows ++ rest) numbers texts) (printedFrom (r .span) (rows ++ rest) numbers texts)
-          ≡ pick b (rowText numbers texts r ++ printedFrom 0 rows numbers texts) (printedFrom (r .span) rows numbers texts) ++ printedFrom 0 rest numbers texts
-      go true e d = ap (λ (s : List ℕ). rowText numbers texts r ++ s) e ∙ sym (append-assoc (rowText numbers texts r) _ _)
-      go false e d = d
-  followed (suc k) (r ∷ rows) rest h l = followed k rows rest (parts r rows h .1 .1) (omega arith)
+      rw (same (r .when) (a .0 .0), silent (r .value) (a .0 .1), printed-same 0 rows (a .1), printed-same (r .span) rows (a .1))
+  printed-same (suc k) (r ∷ rows) h = printed-same k rows (parts r rows h .1)
 
 -- ---- the numbers up to the cap, one by one
 abbrev eqList : List ℕ → List ℕ → Bool
@@ -189,16 +166,13 @@ at-most (suc k) f h n l = go (leb n k) refl (at-most k f (both (f (suc k)) (upTo
 
 -- what rows say of each number up to the cap
 abbrev pub Tells : ℕ → ℕ → List Row → (ℕ → List ℕ) → Type 0
-Tells place cap rows said = T (tellable place cap rows && upTo cap (λ (k : ℕ). eqList (printed rows (only place k) []) (said k)))
+Tells place cap rows said = T (closed rows && (tellable place cap rows && upTo cap (λ (k : ℕ). eqList (printed rows (only place k) []) (said k))))
 
 pub chosen-says : {numbers texts : List ℕ} (place cap : ℕ) (rows : List Row) (said : ℕ → List ℕ) → Tells place cap rows said → (n : ℕ)
     → getD numbers place 0 ≡ n → said (min n cap) ≡ said n → Says numbers texts rows (said n)
-chosen-says {numbers} {texts} place cap rows said checked n there e =
-    let w = both (tellable place cap rows) (upTo cap (λ (k : ℕ). eqList (printed rows (only place k) []) (said k))) checked in
-    let at-n : printed rows (only place (min n cap)) [] ≡ said (min n cap) =
-    eq-list _ _ (at-most cap (λ (k : ℕ). eqList (printed rows (only place k) []) (said k)) (w .1) (min n cap) (omega arith)) in
-    record {
-      first = λ rest.
-          followed numbers texts place cap n there 0 rows rest (w .0) (omega arith)
-          ∙ ap (λ (s : List ℕ). s ++ printedFrom 0 rest numbers texts) (printed-same numbers texts place cap n there 0 rows (w .0) ∙ at-n ∙ e);
-    }
+chosen-says {numbers} {texts} place cap rows told checked n there e =
+    let all : ℕ → Bool = λ k. eqList (printed rows (only place k) []) (told k) in
+    let v = both (closed rows) (tellable place cap rows && upTo cap all) checked in
+    let w = both (tellable place cap rows) (upTo cap all) (v .1) in
+    let at-n : printed rows (only place (min n cap)) [] ≡ told (min n cap) = eq-list _ _ (at-most cap all (w .1) (min n cap) (omega arith)) in
+    said (printed-same numbers texts place cap n there 0 rows (w .0) ∙ at-n ∙ e) (own-says numbers texts rows (v .0))
