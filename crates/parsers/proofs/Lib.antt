@@ -3,3 +3,4 @@ pub mod Fields
 pub mod Texts
 pub mod Tables
 pub mod Unique
+pub mod LittleLaws

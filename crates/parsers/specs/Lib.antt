@@ -3,3 +3,4 @@ pub mod Field
 pub mod Text
 pub mod Scan
 pub mod Table
+pub mod Little

@@ -1,4 +1,6 @@
 // Fields of bits over a slice of bytes and a bit place, highest bit first, and six-bit text (messages/parsers.rs).
+pub mod little;
+
 ghost use mathlib.Core.Path.{_≡_};
 ghost use Prim.Native.Nat.{_+_, _*_, _^_, _≤_, _<_};
 ghost use lib.ListN.{getD};

@@ -3,7 +3,7 @@ use mathlib.Core.Path.{_≡_}
 use Prim.Native.Nat.{ℕ, zero, suc, _/_, _^_, _<_}
 use native.Mathlib.Omega.{arith}
 use native.Mathlib.Nat.{div-add-mod', div-lt-iff-lt-mul, pow-suc, zero-lt-suc}
-use Rattle.number_bytes.specs.Bytes.{littleOf, littleBytes}
+use Rattle.parsers.specs.Little.{littleOf, littleBytes}
 
 -- a number in k bytes is read back
 pub little-back : (k n : ℕ) → n < 256 ^ k → littleOf (littleBytes k n) ≡ n

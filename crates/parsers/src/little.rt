@@ -1,7 +1,7 @@
 // A number as eight bytes, the lowest first, and back.
 ghost use mathlib.Core.Path.{_≡_};
 ghost use mathlib.Core.List.{[], _∷_};
-ghost use Rattle.number_bytes.specs.Bytes.{littleOf, littleBytes};
+ghost use Rattle.parsers.specs.Little.{littleOf, littleBytes};
 
 // The number of eight bytes, the lowest first.
 pub fn from_eight(a: u8, b: u8, c: u8, d: u8, e: u8, f: u8, g: u8, h: u8) -> usize
