@@ -8,8 +8,8 @@ use Rattle.layout_numbers.specs.Places.{type, repeat, mmsi, status, turnThere, 
 use Rattle.layout_numbers.specs.Places.{latitudeThere, latitudeRaw, courseThere, courseRaw, headingThere, heading, second, manoeuvre, raim, line, radio}
 use Rattle.layout_numbers.specs.Places.{part, shipType, model, serial, toBow, toStern, toPort, toStarboard, nameLength, vendorLength, modelTextLength}
 use Rattle.layout_numbers.specs.Places.{callsignLength, stations, firstMmsi, firstMessages, firstType1, firstOffsetThere1, firstOffset1, firstType2}
-use Rattle.layout_numbers.specs.Places.{firstOffsetThere2, firstOffset2, secondMmsi, secondMessages, secondType1, secondOffsetThere1, secondOffset1, secondType2}
-use Rattle.layout_numbers.specs.Places.{secondOffsetThere2, secondOffset2, nameStart, vendorStart, modelTextStart, callsignStart}
+use Rattle.layout_numbers.specs.Places.{firstOffsetThere2, firstOffset2, secondMmsi, secondMessages, secondType1, secondOffsetThere1, secondOffset1}
+use Rattle.layout_numbers.specs.Places.{secondType2, secondOffsetThere2, secondOffset2, nameStart, vendorStart, modelTextStart, callsignStart}
 use Rattle.face_members.specs.Words.{statuses, thirties, fifties}
 use Rattle.face_members.specs.Members.{words, wordsIf, valueIf, member, memberIf, orNull, unlessNull, leastOrNull, flag, between, wordsFrom}
 use Rattle.face_members.specs.Members.{quotedFrom, kindRows}

@@ -13,7 +13,8 @@ use Rattle.ais.proofs.hand.Statement.{statement}
 use Rattle.ais.proofs.hand.Tie as tie
 
 -- the join is that of the sentence's fragment
-joins : (c : tie.After-join) → (let a = c .before .before .before .before .before .args in joinIn (c .join .result) ≡ joinOf (a .state) (fragmentOf (a .s)) (a .own .now))
+joins : (c : tie.After-join)
+    → (let a = c .before .before .before .before .before .args in joinIn (c .join .result) ≡ joinOf (a .state) (fragmentOf (a .s)) (a .own .now))
 joins c =
     let a = c .before .before .before .before .before .args in
     c .join .ensures ∙ ap (λ (f : Fragment). joinOf (a .state) f (a .own .now)) (c .before .fragment-of .ensures)

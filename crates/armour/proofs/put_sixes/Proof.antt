@@ -73,7 +73,8 @@ returns-2 c =
     let n = length (a .payload .now) - 1 in
     let e : l .i ≡ n = omega arith in
     let six = c .last-six .ensures ∙ last _ _ (i .pre .0) n (omega arith) in
-    all (a .payload .now) (a .fill) (i .pre .0) (length (a .out .now)) (n + 1) _ (omega arith) (begun-more _ _ n _ (l .out) (rw e at (l .inv .1)) (omega (arith, i .pre .1 .0)) six)
+    let begun = begun-more _ _ n _ (l .out) (rw e at (l .inv .1)) (omega (arith, i .pre .1 .0)) six in
+    all (a .payload .now) (a .fill) (i .pre .0) (length (a .out .now)) (n + 1) _ (omega arith) begun
 
 same-length : tie.Need-same-length Inv-loop μ-loop
 same-length c = search needs

@@ -31,7 +31,8 @@ returns c =
     let read = ai .before in
     let s = read .before .before .before .before .before .args in
     rw
-    (usual-origin (s .numbers .now) (s .texts .now) (sym (read .before .number-at .ensures) ∙ ai .if1 .taken) (sym (read .number-at2 .ensures) ∙ vdm .if2 .taken))
+    (usual-origin (s .numbers .now) (s .texts .now) (sym (read .before .number-at .ensures) ∙ ai .if1 .taken)
+    (sym (read .number-at2 .ensures) ∙ vdm .if2 .taken))
     (done .put-bytes .ensures)
 
 slice-aggregate-put-rows : tie.Need-slice-aggregate-put-rows

@@ -211,8 +211,10 @@ returns-13 c =
     let arm = done .before .before .before in
     let n = arm .before .before .number-at in
     let r = arm .before .match .rest in
-    let most = after 7 (after 6 (after 5 (after 4 (after 3 (after 2 (after 1 (after 0 (omega arith) (r .0 .0 .0 .0 .0 .0 .0 .0 .0 .0 .0 .1)) (r .0 .0 .0 .0 .0 .0 .0 .0 .0 .0 .1)) (r .0 .0 .0 .0 .0 .0 .0 .0 .0 .1)) (r .0 .0 .0 .0 .0 .0 .0 .0 .1))
-    (r .0 .0 .0 .0 .0 .0 .0 .1)) (r .0 .0 .0 .0 .0 .0 .1)) (r .0 .0 .0 .0 .0 .1)) (r .0 .0 .0 .0 .1) in
+    let past8 = r .0 .0 .0 .0 in
+    let past4 = past8 .0 .0 .0 .0 in
+    let first = after 3 (after 2 (after 1 (after 0 (omega arith) (past4 .0 .0 .0 .1)) (past4 .0 .0 .1)) (past4 .0 .1)) (past4 .1) in
+    let most = after 7 (after 6 (after 5 (after 4 first (past8 .0 .0 .0 .1)) (past8 .0 .0 .1)) (past8 .0 .1)) (past8 .1) in
     let low = after 10 (after 9 (after 8 most (r .0 .0 .0 .1)) (r .0 .0 .1)) (r .0 .1) in
     rw (sym (n .ensures), reserved (n .result) low (arm .if1 .taken)) (done .put-bytes13 .ensures)
 

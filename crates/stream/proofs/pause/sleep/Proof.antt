@@ -1,5 +1,5 @@
--- `stream::pause::sleep` meets its contract: a walk of its MIR, by hand. The two times are in locals, `asked` and `left`, that are lent to `nanosleep` by `&` and by
--- `&mut`: a lifetime is made for each loan, the call, each lifetime is ended, and the locals are back, at some times.
+-- `stream::pause::sleep` meets its contract: a walk of its MIR, by hand. The two times are in locals, `asked` and `left`, that are lent to `nanosleep` by `&`
+-- and by `&mut`: a lifetime is made for each loan, the call, each lifetime is ended, and the locals are back, at some times.
 -- All that the proof knows of `nanosleep` is that it meets its contract; it uses only that the call returns an `i32`. What `sleep` requires of the time asked
 -- is for its callers to show, and the walk does not need it.
 -- Assumes nothing.
