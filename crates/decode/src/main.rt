@@ -49,6 +49,7 @@ fn after_turn(
         Way::Last => answer_last(gone.source, told, show, line, out, tally),
         Way::On => after(gone, told),
         Way::Ended => after(gone, told),
+        Way::Stopped => after(gone, told),
         Way::Failed => after(gone, told),
     }
 }

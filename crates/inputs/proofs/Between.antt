@@ -1,6 +1,5 @@
 -- What is given back between two lines, from what the calls of `stream` give. Assumes nothing.
-use Prim.Native.Nat.{ℕ, _≤_}
-use native.Mathlib.Omega.{arith}
+use Prim.Native.Nat.{ℕ}
 use mathlib.Core.Path.{_≡_, refl}
 use mathlib.Core.Bool.{Bool, true, false}
 use mathlib.Core.List.{List}
@@ -33,11 +32,11 @@ module _ (source : Source) (used : ℕ) (f : Filled) (block : List ℕ) {s : Sou
   pub read-end : f .came ≡ Came.End → Reads source used (record { source = s; used = 0; way = Way.Last }) block
   read-end e = read-by Way.Last 0 (rw e at (fills .some), refl)
 
-  pub not-read : f .came ≡ Came.Unread → Reads source used (record { source = s; used = 0; way = Way.Failed }) block
-  not-read e = read-by Way.Failed 0 (rw e at (fills .some), omega arith)
+  pub not-read : f .came ≡ Came.Unread → Reads source used (record { source = s; used = 0; way = Way.Stopped }) block
+  not-read e = read-by Way.Stopped 0 (rw e at (fills .some), refl)
 
   pub not-written : f .came ≡ Came.Unwritten → Reads source used (record { source = s; used = used; way = Way.Failed }) block
-  not-written e = read-by Way.Failed used (rw e at (fills .some), omega arith)
+  not-written e = read-by Way.Failed used (rw e at (fills .some), refl)
 
 module _ (source : Source) (used : ℕ) {full : Bool} (is : full ≡ leb 49152 used) where
   pub is-written : full ≡ true → Empties source used (record { source = source; used = 0; way = Way.On })

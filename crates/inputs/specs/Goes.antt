@@ -21,6 +21,7 @@ abbrev pub isOn : Way → Bool
 isOn Way.On = true
 isOn Way.Last = true
 isOn Way.Ended = false
+isOn Way.Stopped = false
 isOn Way.Failed = false
 
 -- at an input's start; nothing of the output is written
@@ -33,6 +34,7 @@ abbrev pub LeftInUse : Way → ℕ → ℕ → Type 0
 LeftInUse Way.On used n = n ≡ pick (leb 49152 used) 0 used
 LeftInUse Way.Last used n = ⊥
 LeftInUse Way.Ended used n = ⊥
+LeftInUse Way.Stopped used n = ⊥
 LeftInUse Way.Failed used n = (n ≡ used) × (leb 49152 used ≡ true)
 
 -- after a line: the source stays
@@ -45,7 +47,8 @@ abbrev pub Brought : Way → ℕ → ℕ → ℕ → Type 0
 Brought Way.On filled used n = (0 < filled) × (n ≡ 0)
 Brought Way.Last filled used n = (filled ≡ 0) × (n ≡ 0)
 Brought Way.Ended filled used n = ⊥
-Brought Way.Failed filled used n = (filled ≡ 0) × (n ≤ used)
+Brought Way.Stopped filled used n = (filled ≡ 0) × (n ≡ 0)
+Brought Way.Failed filled used n = (filled ≡ 0) × (n ≡ used)
 
 -- reading on: what is held is kept, reading goes on at the block's start, and what was filled lies in the block
 pub record Reads (source : Source) (used : ℕ) (r : Gone) (block : List ℕ) : Type 0 where
@@ -61,11 +64,12 @@ abbrev pub Goes : Source → Next → ℕ → Gone → List ℕ → Type 0
 Goes source (Next.Line n) used r block = Empties source used r
 Goes source Next.TooLong used r block = Empties source used r
 Goes source Next.Nothing used r block = Reads source used r block
-Goes source Next.Room used r block = r ≡ record { source = source; used = used; way = Way.Failed }
+Goes source Next.Room used r block = r ≡ record { source = source; used = used; way = Way.Stopped }
 
--- the status at the end: 1 where a call failed, also the last write
+-- the status at the end: 1 where a call failed, also the last write; what was told before an input failed is still written
 abbrev pub Finishes : Way → ℕ → Type 0
 Finishes Way.On r = r ≡ 1
 Finishes Way.Last r = r ≡ 1
 Finishes Way.Ended r = r ≤ 1
+Finishes Way.Stopped r = r ≡ 1
 Finishes Way.Failed r = r ≡ 1

@@ -94,12 +94,13 @@ pub struct Source {
     pub place: usize,
 }
 
-// How far a run is: on its way; at the end of an input, of which what is held is the last line; at the end of all; or stopped by a call that failed,
-// which was said.
+// How far a run is: on its way; at the end of an input, of which what is held is the last line; at the end of all; stopped by an input that could not be
+// opened or read; or by a write that failed, after which nothing more is written. Whichever failed was said.
 pub enum Way {
     On,
     Last,
     Ended,
+    Stopped,
     Failed,
 }
 
@@ -159,7 +160,7 @@ fn input_from(program: &[u8], number: u64, from: usize, used: usize) -> Gone
     let opened = open(&name[..n]);
     if opened < 0 {
         stream::say_failure(program, number, b"opening", &name[..n]);
-        return begun(opened, place, used, Way::Failed);
+        return begun(opened, place, used, Way::Stopped);
     }
     begun(opened, place, used, Way::On)
 }
@@ -241,7 +242,7 @@ pub fn go_on(
             Gone {
                 source: source,
                 used: used,
-                way: Way::Failed,
+                way: Way::Stopped,
             }
         }
     }
@@ -313,7 +314,7 @@ fn read_on(
             Gone {
                 source: rest,
                 used: 0,
-                way: Way::Failed,
+                way: Way::Stopped,
             }
         }
         Came::Unwritten => {
@@ -344,9 +345,13 @@ pub fn finish(program: &[u8], number: u64, way: Way, out: &[u8], used: usize) ->
     ensures { λ r. ⌜ Finishes way r ⌝ }
 {
     match way {
-        Way::Failed => return 1,
         Way::On => return 1,
         Way::Last => return 1,
+        Way::Failed => return 1,
+        Way::Stopped => {
+            write_out(program, number, out, used);
+            return 1;
+        }
         Way::Ended => {
             if write_out(program, number, out, used) {
                 return 0;
@@ -364,6 +369,7 @@ pub fn is_on(way: Way) -> bool
         Way::On => true,
         Way::Last => true,
         Way::Ended => false,
+        Way::Stopped => false,
         Way::Failed => false,
     }
 }

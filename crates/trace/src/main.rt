@@ -53,6 +53,7 @@ fn after_turn(gone: Gone, number: u64, said: Answered, line: &[u8], out: &mut [u
         Way::Last => answer_last(gone.source, number, said, line, out),
         Way::On => after(gone, number, said),
         Way::Ended => after(gone, number, said),
+        Way::Stopped => after(gone, number, said),
         Way::Failed => after(gone, number, said),
     }
 }

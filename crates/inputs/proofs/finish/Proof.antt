@@ -29,10 +29,19 @@ write-out-requires : tie.Need-write-out-requires
 write-out-requires c κs = search needs
 
 returns-4 : tie.Need-returns-4
-returns-4 c = rw (c .before .before .enum-told4 .given .1) (omega arith)
+returns-4 c = rw (c .before .enum-told4 .given .1)
+
+enum-told-5 : tie.Need-enum-told-5
+enum-told-5 c = search needs
+
+write-out-requires-2 : tie.Need-write-out-requires-2
+write-out-requires-2 c κs = search needs
 
 returns-5 : tie.Need-returns-5
-returns-5 c = rw (c .before .before .enum-told4 .given .1) (omega arith)
+returns-5 c = rw (c .before .before .enum-told5 .given .1) (omega arith)
+
+returns-6 : tie.Need-returns-6
+returns-6 c = rw (c .before .before .enum-told5 .given .1) (omega arith)
 
 pub finish-spec : {M : Type 1} → statement M
 finish-spec =
@@ -47,4 +56,7 @@ finish-spec =
     enum-told-4
     write-out-requires
     returns-4
-    returns-5)
+    enum-told-5
+    write-out-requires-2
+    returns-5
+    returns-6)
