@@ -5,14 +5,12 @@ use mathlib.Core.Bool.{Bool, true, false, _&&_}
 use mathlib.Core.List.{List, [], _∷_, _++_}
 use lib.Dec.{eqb, leb, ltb}
 use lib.ListN.{length, getD, take, replicate}
-use Rattle.refusal.specs.Words.{pick, Told, taken, refused, left}
+use Rattle.refusal.specs.Words.{pick, Told, taken, refused}
 use Rattle.sentence.specs.declared.Number.{Number}
 use Rattle.interrogation.specs.declared.Interrogation.{Interrogation}
 use Rattle.messages.specs.declared.AisMessage.{AisMessage}
 use Rattle.messages.specs.declared.Message.{Message}
 use Rattle.reassembly.specs.declared.Record.{Record}
-use Rattle.armour.specs.Armour.{unarmored}
-use Rattle.armour.specs.Unarmor.{answerOf}
 use Rattle.answer.specs.Answer.{Progress, complete, unfinished, outcomeIn}
 use Rattle.ais.specs.Call.{Called, calledOf}
 use Rattle.answer.specs.declared.Decode.{Decode}
@@ -23,32 +21,17 @@ use Rattle.text_out.specs.Digits.{decimalOf}
 use Rattle.sentence.specs.Other.{otherSentence}
 use Rattle.summary.specs.Tally.{anotherKind, bumped, countedOf}
 use Rattle.parsers.specs.Field.{fieldOf}
-use Rattle.layout_numbers.specs.Optional.{absent, present}
-use Rattle.layout_numbers.specs.declared.Optional.{Optional}
+use Rattle.layout_numbers.specs.Optional.{absent}
 use Rattle.layout_position.specs.Position.{flagOf}
 use Rattle.layout_answer.specs.declared.whole.Layout.{Layout}
 use Rattle.layout_answer.specs.Layout.{layoutBy}
 use Rattle.face_json.specs.Line.{messageLine, refusedLine}
+use Rattle.json_sender.specs.Sender.{senderOf}
 use Rattle.json.specs.Object.{About, messageObject, refusedObject}
 use Rattle.json.specs.declared.Show.{Show}
 use Rattle.json.specs.declared.Next.{Next}
 
 -- ---- a refused line
--- refusal 10 writes no buffers, so the line is read once more with decoding off, which hands its payload out
-unfoldable pub plainOf : Record → List ℕ → Called
-plainOf found line = calledOf found line Decode.Off (replicate 384 0) (replicate 288 0)
-
--- bits 8 to 37 of the first seven characters: "type 6, repeat 2, MMSI 30". Of a message that is refused with 10 every character can be unarmored
-abbrev pub mmsiOf : List ℕ → ℕ
-mmsiOf payload = let s = take 7 payload in fieldOf (left (answerOf s 0 6) (unarmored s 0) (replicate 6 0)) 8 30
-
--- the sender of a message whose type is not decoded, where its bits were sent
-abbrev pub senderBy : Called → Optional
-senderBy called = pick (ltb (called .sentence .«sent_bits») 38) absent (present (mmsiOf (called .payload)))
-
-abbrev pub senderOf : ℕ → Record → List ℕ → Optional
-senderOf n found line = pick (eqb n 10) (senderBy (plainOf found line)) absent
-
 -- a line that breaks the line rules may be a well-formed sentence that is not ours
 abbrev pub otherOf : ℕ → List ℕ → Bool
 otherOf n line = pick (eqb n 2) (otherSentence line) false

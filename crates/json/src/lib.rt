@@ -17,7 +17,7 @@ ghost use Rattle.answer.specs.Answer.{outcomeIn};
 ghost use Rattle.layout_position.specs.Position.{flagOf};
 ghost use Rattle.json.specs.Object.{refusedObject};
 ghost use Rattle.summary.specs.Tally.{countedOf};
-ghost use Rattle.json.specs.Answer.{plainOf, mmsiOf, senderBy, senderOf, otherOf, aboutOf, aboutLong, shownBy, answerLine, putFor};
+ghost use Rattle.json.specs.Answer.{otherOf, aboutOf, aboutLong, shownBy, answerLine, putFor};
 ghost use Rattle.json.specs.Answer.{typeBy, refusedTally, tallyOf, leftWith, leftIn, leftLong, leftOf, numberText, unfinishedText};
 
 // What is kept from line to line: the reassembly record, the number of lines so far, and how much of the output buffer is in use.
@@ -249,7 +249,7 @@ fn put_refusal(
     count_refused(tally, code, other);
     match show {
         Show::All => {
-            let sender = sender_of(code, found, line);
+            let sender = json_sender::sender_of(code, found, line);
             let beside = Beside {
                 sender: sender,
                 other: other,
@@ -317,43 +317,4 @@ fn flag(b: bool) -> u64
     ensures { λ r. ⌜ r ≡ flagOf b ⌝ }
 {
     if b { 1 } else { 0 }
-}
-
-// The sender of a line that was refused with this number, where it is told.
-fn sender_of(code: u8, found: Record, line: &[u8]) -> Optional
-    ensures { λ r. ⌜ r ≡ senderOf code found (now (line .entry)) ⌝ }
-{
-    if code == 10 {
-        return sender_sent(found, line);
-    }
-    Optional { there: 0, value: 0 }
-}
-
-// The sender by the payload, which a call with decoding off hands out.
-fn sender_sent(found: Record, line: &[u8]) -> Optional
-    ensures { λ r. ⌜ r ≡ senderBy (plainOf found (now (line .entry))) ⌝ }
-{
-    let mut payload = [0u8; 384];
-    let mut bits = [0u8; 288];
-    let s = ais::step(found, line, Decode::Off, &mut payload, &mut bits);
-    let answer = s.answer;
-    let sentence = answer.sentence;
-    if sentence.sent_bits < 38 {
-        return Optional { there: 0, value: 0 };
-    }
-    let mmsi = mmsi_of(&payload);
-    Optional {
-        there: 1,
-        value: mmsi,
-    }
-}
-
-// The MMSI among the first characters of a payload.
-fn mmsi_of(payload: &[u8]) -> u64
-    ensures { λ r. ⌜ r ≡ mmsiOf (now (payload .entry)) ⌝ }
-{
-    let mut bits = [0u8; 6];
-    let k = text_out::up_to(7, payload);
-    armour::unarmor(&payload[..k], 0, &mut bits);
-    parsers::field(&bits, 8, 30)
 }

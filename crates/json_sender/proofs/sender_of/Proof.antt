@@ -1,8 +1,8 @@
--- `json::sender_of` meets its contract. Assumes nothing.
+-- `json_sender::sender_of` meets its contract. Assumes nothing.
 use borrow.Author.Tests.{eq-eqb, ne-eqb}
 use borrow.Author.Needs.{needs}
-use Rattle.json.proofs.sender_of.Statement.{statement}
-use Rattle.json.proofs.sender_of.Tie as tie
+use Rattle.json_sender.proofs.sender_of.Statement.{statement}
+use Rattle.json_sender.proofs.sender_of.Tie as tie
 
 sender-sent-requires : tie.Need-sender-sent-requires
 sender-sent-requires c κs = search needs

@@ -1,9 +1,9 @@
--- `json::sender_sent` meets its contract. Assumes nothing.
-use Rattle.json.specs.Answer.{plainOf}
-use Rattle.json.proofs.Senders.{short-sender, long-sender}
+-- `json_sender::sender_sent` meets its contract. Assumes nothing.
+use Rattle.json_sender.specs.Sender.{plainOf}
+use Rattle.json_sender.proofs.Senders.{short-sender, long-sender}
 use borrow.Author.Needs.{needs}
-use Rattle.json.proofs.sender_sent.Statement.{statement}
-use Rattle.json.proofs.sender_sent.Tie as tie
+use Rattle.json_sender.proofs.sender_sent.Statement.{statement}
+use Rattle.json_sender.proofs.sender_sent.Tie as tie
 
 slice-aggregate-step : tie.Need-slice-aggregate-step
 slice-aggregate-step c = search needs
@@ -17,7 +17,7 @@ step-requires c κs = search needs
 returns : tie.Need-returns
 unfolding plainOf
 returns c =
-    let call = c .before .before .before .before .before .before .step in
+    let call = c .before .before .before .step in
     short-sender (call .result) (call .ensures) (c .if1 .taken)
 
 slice-aggregate-mmsi-of : tie.Need-slice-aggregate-mmsi-of
@@ -29,7 +29,7 @@ mmsi-of-requires c κs = search needs
 returns-2 : tie.Need-returns-2
 unfolding plainOf
 returns-2 c =
-    let call = c .before .before .before .before .before .before .before .before .step in
+    let call = c .before .before .before .before .before .step in
     long-sender (call .result) (call .ensures) (c .before .before .if1 .left) (c .mmsi-of .ensures)
 
 pub sender-sent-spec : {M : Type 1} → statement M
