@@ -26,7 +26,7 @@ use Rattle.layout_position.specs.Position.{flagOf}
 use Rattle.layout_answer.specs.declared.whole.Layout.{Layout}
 use Rattle.layout_answer.specs.Layout.{layoutBy}
 use Rattle.face_json.specs.Line.{messageLine, refusedLine}
-use Rattle.json_sender.specs.Sender.{senderOf}
+use Rattle.layout_answer.specs.Sender.{senderOf}
 use Rattle.json.specs.Object.{About, messageObject, refusedObject}
 use Rattle.json.specs.declared.Show.{Show}
 use Rattle.json.specs.declared.Next.{Next}

@@ -249,7 +249,7 @@ fn put_refusal(
     count_refused(tally, code, other);
     match show {
         Show::All => {
-            let sender = json_sender::sender_of(code, found, line);
+            let sender = layout_answer::sender::sender_of(code, found, line);
             let beside = Beside {
                 sender: sender,
                 other: other,

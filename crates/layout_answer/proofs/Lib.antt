@@ -3,3 +3,4 @@ pub mod Counts
 pub mod Tells
 pub mod Laid
 pub mod Places
+pub mod Senders

@@ -1,3 +1,4 @@
 pub mod Sentence
 pub mod Answer
 pub mod Layout
+pub mod Sender

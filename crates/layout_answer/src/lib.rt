@@ -1,4 +1,5 @@
 // What a call answers: its code, 50 numbers (the values of its outcome, its sentence, its message) and 80 bytes of text.
+pub mod sender;
 pub mod whole;
 
 use answer::Answer;

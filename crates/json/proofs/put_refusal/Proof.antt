@@ -9,7 +9,7 @@ use Rattle.text_out.specs.Text.{text, put}
 use Rattle.text_out.proofs.Laws.{put-nothing}
 use Rattle.layout_numbers.specs.declared.Optional.{Optional}
 use Rattle.json.specs.Object.{refusedObject}
-use Rattle.json_sender.specs.Sender.{senderOf}
+use Rattle.layout_answer.specs.Sender.{senderOf}
 use Rattle.json.specs.Answer.{otherOf, refusedTally}
 use borrow.Author.Needs.{needs}
 use Rattle.json.proofs.put_refusal.Statement.{statement}

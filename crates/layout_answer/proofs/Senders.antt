@@ -6,7 +6,7 @@ use borrow.Author.Tests.{lt-ltb, le-ltb}
 use Rattle.ais.specs.Call.{Called, calledIn}
 use Rattle.ais.specs.declared.Stepped.{Stepped}
 use Rattle.layout_numbers.specs.Optional.{absent, present}
-use Rattle.json_sender.specs.Sender.{mmsiOf, senderBy}
+use Rattle.layout_answer.specs.Sender.{mmsiOf, senderBy}
 
 short : (c : Called) → c .sentence .«sent_bits» < 38 → absent ≡ senderBy c
 short c h = rw (lt-ltb _ 38 h)

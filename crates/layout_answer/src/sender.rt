@@ -3,7 +3,7 @@ use answer::Decode;
 use layout_numbers::Optional;
 use reassembly::Record;
 ghost use mathlib.Core.Path.{_≡_};
-ghost use Rattle.json_sender.specs.Sender.{plainOf, mmsiOf, senderBy, senderOf};
+ghost use Rattle.layout_answer.specs.Sender.{plainOf, mmsiOf, senderBy, senderOf};
 
 // The sender of a line that was refused with this number, where it is told.
 pub fn sender_of(code: u8, found: Record, line: &[u8]) -> Optional

@@ -1,9 +1,9 @@
--- `json_sender::sender_sent` meets its contract. Assumes nothing.
-use Rattle.json_sender.specs.Sender.{plainOf}
-use Rattle.json_sender.proofs.Senders.{short-sender, long-sender}
+-- `layout_answer::sender::sender_sent` meets its contract. Assumes nothing.
+use Rattle.layout_answer.specs.Sender.{plainOf}
+use Rattle.layout_answer.proofs.Senders.{short-sender, long-sender}
 use borrow.Author.Needs.{needs}
-use Rattle.json_sender.proofs.sender_sent.Statement.{statement}
-use Rattle.json_sender.proofs.sender_sent.Tie as tie
+use Rattle.layout_answer.proofs.sender.sender_sent.Statement.{statement}
+use Rattle.layout_answer.proofs.sender.sender_sent.Tie as tie
 
 slice-aggregate-step : tie.Need-slice-aggregate-step
 slice-aggregate-step c = search needs

@@ -1,4 +1,4 @@
--- `json_sender::mmsi_of` meets its contract. Assumes nothing.
+-- `layout_answer::sender::mmsi_of` meets its contract. Assumes nothing.
 use Prim.Native.Nat.{ℕ}
 use mathlib.Core.Path.{ap, _∙_}
 use mathlib.Core.List.{List}
@@ -9,8 +9,8 @@ use Rattle.armour.specs.Armour.{unarmored}
 use Rattle.armour.specs.Unarmor.{answerOf}
 use Rattle.text_out.proofs.Laws.{take-min}
 use borrow.Author.Needs.{needs}
-use Rattle.json_sender.proofs.mmsi_of.Statement.{statement}
-use Rattle.json_sender.proofs.mmsi_of.Tie as tie
+use Rattle.layout_answer.proofs.sender.mmsi_of.Statement.{statement}
+use Rattle.layout_answer.proofs.sender.mmsi_of.Tie as tie
 
 up-to-requires : tie.Need-up-to-requires
 up-to-requires c κs = search needs
