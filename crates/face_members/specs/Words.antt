@@ -1,5 +1,5 @@
 -- What the numbers of some fields mean, in the words of the AIVDM description's tables.
-use Prim.Native.Nat.{ℕ, zero, suc}
+use Prim.Native.Nat.{ℕ}
 use Prim.Native.String.{String}
 use mathlib.Core.List.{List, [], _∷_, _++_}
 use lib.Dec.{ltb}

@@ -4,14 +4,13 @@ use Prim.Native.Nat.{ℕ, zero, suc, _+_, _≤_, _<_, min}
 use native.Mathlib.Omega.{arith}
 use mathlib.Core.Path.{_≡_, refl, sym, ap, _∙_}
 use mathlib.Core.Bool.{Bool, true, false, not, _&&_}
-use mathlib.Core.List.{List, [], _∷_, _++_, append-assoc}
+use mathlib.Core.List.{List, [], _∷_, _++_}
 use lib.Dec.{T, eqb, leb, ltb, eqb→eq, leb→le, ltb→lt}
 use lib.ListN.{length, getD, replicate, length-replicate}
 use lib.Seq.{getD-append-add}
 use borrow.Author.Tests.{leb-true, leb-false, le-ltb, le-leb, ne-eqb}
-use Rattle.refusal.specs.Words.{pick}
 use Rattle.face_rows.specs.Rows.{Test, always, is, isNot, least, below, Value, nothing, number, signed, tenths, degrees, quoted, hexed, pattern}
-use Rattle.face_rows.specs.Rows.{letter, pair, float, Row, holds, valueText, rowText, printed, printedFrom}
+use Rattle.face_rows.specs.Rows.{letter, pair, float, Row, holds, valueText, printed, printedFrom}
 use Rattle.face_rows.proofs.Says.{Says, said, both, closed, own-says}
 
 -- ---- rows that say the same over two layouts

@@ -1,29 +1,27 @@
 -- What the table of face_json says of a refused line is what json/specs/Object says of its number, its values and what is told beside them. Assumes nothing.
 use Prim.Native.Nat.{ℕ, _+_, _≤_, min}
 use native.Mathlib.Omega.{arith}
-use mathlib.Core.Path.{_≡_, refl, sym, ap, _∙_}
+use mathlib.Core.Path.{_≡_, refl, ap, _∙_}
 use mathlib.Core.Bool.{Bool, true, false, not}
-use mathlib.Core.List.{List, [], _∷_, _++_, append-nil, append-assoc}
+use mathlib.Core.List.{List, [], _∷_, _++_, append-nil}
 use lib.Dec.{eqb, leb}
 use lib.ListN.{length, getD, take}
 use lib.Seq.{take-take}
 use Rattle.refusal.specs.Words.{pick}
 use Rattle.refusal.specs.Refusal.{rowOf}
-use Rattle.refusal.specs.Values.{Returned}
 use Rattle.refusal.specs.declared.Refusal.{Refusal}
-use Rattle.refusal.specs.declared.Values.{Values}
 use Rattle.text_out.specs.Text.{ascii}
 use Rattle.text_out.specs.Digits.{decimalOf}
 use Rattle.text_out.proofs.Laws.{take-min}
 use Rattle.layout_position.specs.Position.{flagOf}
-use Rattle.face_values.specs.Quoted.{quotedIn, pairIn}
-use Rattle.face_rows.specs.Rows.{Row, Test, is, isNot, least, nothing, number, pair, quoted, row, group, holds, printedFrom}
+use Rattle.face_values.specs.Quoted.{quotedIn}
+use Rattle.face_rows.specs.Rows.{Row, Test, is, isNot, least, nothing, number, pair, quoted, holds, printedFrom}
 use Rattle.layout_numbers.specs.Places as at
 use Rattle.face_members.specs.Members as face
 use Rattle.face_rows.specs.Reasons.{reasons}
 use Rattle.face_json.specs.Refused.{valuesTable, checksumTable, typeTable, reasonTable, refusedTable}
 use Rattle.face_json.specs.Line.{refusedLine}
-use Rattle.json.specs.Object.{member, array, inQuotes, reasonOf, sumMembers, typeMembers, textMembers, About, refusedObject}
+use Rattle.json.specs.Object.{member, array, reasonOf, sumMembers, typeMembers, About, refusedObject}
 use Rattle.json.specs.Answer.{refusedNumbers}
 use Rattle.face_rows.proofs.Says.{Says, _then_, whole, said, row-says, row-silent, group-says, group-silent}
 use Rattle.face_members.proofs.Members.{words-say, member-says, member-if-says}

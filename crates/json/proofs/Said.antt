@@ -4,7 +4,7 @@ use native.Mathlib.Omega.{arith}
 use mathlib.Core.Logic.{_⊎_, inl, inr}
 use mathlib.Core.Path.{_≡_, refl, ap, _∙_}
 use mathlib.Core.Bool.{false}
-use mathlib.Core.List.{List, [], _∷_, _++_, append-nil}
+use mathlib.Core.List.{List, [], _∷_, _++_}
 use lib.Dec.{eqb}
 use lib.ListN.{length, getD, take, length-append}
 use lib.Seq.{getD-append-add}
@@ -41,11 +41,11 @@ use Rattle.face_values.specs.Quoted.{quotedIn}
 use Rattle.face_rows.specs.Rows.{Row, always, is, number, signed, tenths, degrees, quoted, letter, float, textAt, printed}
 use Rattle.layout_numbers.specs.Places as at
 use Rattle.face_members.specs.Members as face
-use Rattle.face_json.specs.Tables.{openedTable, headTable, positionTable, craftMembers as craftRows, craftTable, staticTable, askedTable}
+use Rattle.face_json.specs.Tables.{openedTable, headTable, positionTable, craftMembers as craftRows, askedTable}
 use Rattle.face_json.specs.Line.{tableOf, messageLine}
 use Rattle.json.specs.Answer.{lineFor}
 use Rattle.json.specs.Object.{member, spelled, opened, head, positionObject, partNumber, craftMembers}
-use Rattle.json.specs.Object.{partMembers, staticObject, stationsOf, askedOf, tellAt, askedObject, messageObject}
+use Rattle.json.specs.Object.{partMembers, stationsOf, askedOf, tellAt, askedObject, messageObject}
 use Rattle.json.proofs.Sound.{PositionSound, TextsSound, AskedSound, ContentSound, Sound}
 use Rattle.face_rows.proofs.Says.{Says, _then_, whole, said, row-says, row-silent}
 use Rattle.face_members.proofs.Members.{words-say, member-says, member-if-says, or-null-says, unless-null-says, least-or-null-says, flag-says}

@@ -1,10 +1,10 @@
 -- What a line of the input is answered with: a line of JSON, or nothing. The promise is `leftOf` and `leftLong`, over the fields of the message
 -- (specs/Object); in the code an answer is laid out and the layout shown, and proofs/Calls has that this is the same.
 use Prim.Native.Nat.{ℕ, min}
-use mathlib.Core.Bool.{Bool, true, false, _&&_}
+use mathlib.Core.Bool.{Bool, true, false}
 use mathlib.Core.List.{List, [], _∷_, _++_}
-use lib.Dec.{eqb, leb, ltb}
-use lib.ListN.{length, getD, take, replicate}
+use lib.Dec.{eqb, ltb}
+use lib.ListN.{length, getD, replicate}
 use Rattle.refusal.specs.Words.{pick, Told, taken, refused}
 use Rattle.sentence.specs.declared.Number.{Number}
 use Rattle.interrogation.specs.declared.Interrogation.{Interrogation}
@@ -25,7 +25,7 @@ use Rattle.layout_numbers.specs.Optional.{absent}
 use Rattle.layout_position.specs.Position.{flagOf}
 use Rattle.layout_answer.specs.declared.whole.Layout.{Layout}
 use Rattle.layout_answer.specs.Layout.{layoutBy}
-use Rattle.face_json.specs.Line.{messageLine, refusedLine}
+use Rattle.face_json.specs.Line.{messageLine}
 use Rattle.layout_answer.specs.Sender.{senderOf}
 use Rattle.json.specs.Object.{About, messageObject, refusedObject}
 use Rattle.json.specs.declared.Show.{Show}

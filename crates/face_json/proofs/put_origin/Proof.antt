@@ -1,7 +1,5 @@
 -- `face_json::put_origin` meets its contract. Assumes nothing.
 use mathlib.Core.Path.{sym, _∙_}
-use mathlib.Core.Path.{ap}
-use Rattle.text_out.specs.Text.{put}
 use Rattle.face_rows.specs.Code.{rowsIn}
 use Rattle.face_json.proofs.Usual.{usual-origin}
 use borrow.Author.Needs.{needs}

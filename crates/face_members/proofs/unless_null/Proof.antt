@@ -1,5 +1,5 @@
 -- `face_members::unless_null` meets its contract. Assumes nothing.
-use mathlib.Core.Path.{sym, _∙_}
+use mathlib.Core.Path.{sym}
 use borrow.Author.Tests.{eq-eqb, ne-eqb}
 use borrow.Author.Needs.{needs}
 use Rattle.face_members.proofs.unless_null.Statement.{statement}
