@@ -249,11 +249,79 @@ const REFUSED: [u64; 32] = [
     0x0_0_00_00_0_00_00_208_02,
 ];
 
+// Places of the layout that the code reads by itself, by their names in layout_numbers/specs/Places; part and status share one.
+const TALKER: usize = 2;
+
+const REPORT: usize = 3;
+
+const CHANNEL_THERE: usize = 8;
+
+const CHANNEL: usize = 9;
+
+const KIND: usize = 16;
+
+const TYPE: usize = 17;
+
+const REPEAT: usize = 18;
+
+const MMSI: usize = 19;
+
+const STATUS: usize = 20;
+
+const TURN_THERE: usize = 21;
+
+const TURN: usize = 22;
+
+const RATE_THERE: usize = 23;
+
+const RATE: usize = 24;
+
+const SPEED_THERE: usize = 26;
+
+const SPEED_RAW: usize = 28;
+
+const ACCURACY: usize = 29;
+
+const LONGITUDE_THERE: usize = 30;
+
+const LONGITUDE_RAW: usize = 32;
+
+const LATITUDE_THERE: usize = 33;
+
+const LATITUDE_RAW: usize = 35;
+
+const COURSE_THERE: usize = 36;
+
+const COURSE_RAW: usize = 38;
+
+const HEADING_THERE: usize = 39;
+
+const HEADING: usize = 40;
+
+const SECOND: usize = 41;
+
+const LINE: usize = 50;
+
+const PART: usize = 20;
+
+// Forms of a value, as crate `face_rows` reads them.
+const NUMBER: u64 = 1;
+
+const SIGNED: u64 = 2;
+
+const TENTHS: u64 = 3;
+
+const DEGREES: u64 = 4;
+
+const LETTER: u64 = 8;
+
+const FLOAT: u64 = 10;
+
 // The line of a complete message, by its kind.
 pub fn put_message(out: &mut [u8], at: usize, numbers: &[u64], texts: &[u8]) -> usize
     ensures { λ r. ⌜ text r (now (out .exit)) ≡ put (text at (now (out .entry))) (messageLine (now (numbers .entry)) (now (texts .entry))) ⌝ }
 {
-    let kind = face_rows::number_at(numbers, 16);
+    let kind = face_rows::number_at(numbers, KIND);
     match kind {
         1 => put_position(out, at, numbers, texts),
         2 => put_part(out, at, numbers, texts),
@@ -288,16 +356,16 @@ fn put_head(out: &mut [u8], at: usize, numbers: &[u64], texts: &[u8]) -> usize
         ≡ put (text at (now (out .entry))) (printed headTable (now (numbers .entry)) (now (texts .entry))) ⌝ }
 {
     let a = text_out::put_bytes(out, at, b"{\"class\":\"AIS\",\"line\":");
-    let b = face_rows::put_value(out, a, 1, 50, 0, numbers, texts);
+    let b = face_rows::put_value(out, a, NUMBER, LINE, 0, numbers, texts);
     let c = put_origin(out, b, numbers, texts);
     let d = text_out::put_bytes(out, c, b",\"channel\":");
-    let e = face_members::value_or_null(out, d, numbers, texts, 8, 8, 9);
+    let e = face_members::value_or_null(out, d, numbers, texts, CHANNEL_THERE, LETTER, CHANNEL);
     let f = text_out::put_bytes(out, e, b",\"type\":");
-    let g = face_rows::put_value(out, f, 1, 17, 0, numbers, texts);
+    let g = face_rows::put_value(out, f, NUMBER, TYPE, 0, numbers, texts);
     let h = text_out::put_bytes(out, g, b",\"repeat\":");
-    let i = face_rows::put_value(out, h, 1, 18, 0, numbers, texts);
+    let i = face_rows::put_value(out, h, NUMBER, REPEAT, 0, numbers, texts);
     let j = text_out::put_bytes(out, i, b",\"mmsi\":");
-    face_rows::put_value(out, j, 1, 19, 0, numbers, texts)
+    face_rows::put_value(out, j, NUMBER, MMSI, 0, numbers, texts)
 }
 
 // The line's talker and report type; most are AI and VDM.
@@ -305,8 +373,8 @@ fn put_origin(out: &mut [u8], at: usize, numbers: &[u64], texts: &[u8]) -> usize
     ensures { λ r. ⌜ text r (now (out .exit))
         ≡ put (text at (now (out .entry))) (printed originTable (now (numbers .entry)) (now (texts .entry))) ⌝ }
 {
-    let talker = face_rows::number_at(numbers, 2);
-    let report = face_rows::number_at(numbers, 3);
+    let talker = face_rows::number_at(numbers, TALKER);
+    let report = face_rows::number_at(numbers, REPORT);
     if talker == 3 {
         if report == 1 {
             return text_out::put_bytes(out, at, b",\"talker\":\"AI\",\"report\":\"VDM\"");
@@ -321,7 +389,7 @@ fn put_status(out: &mut [u8], at: usize, numbers: &[u64], texts: &[u8]) -> usize
         ≡ put (text at (now (out .entry))) (printed statusMembers (now (numbers .entry)) (now (texts .entry))) ⌝ }
 {
     let a = text_out::put_bytes(out, at, b",\"status\":");
-    let b = face_members::unless_null(out, a, numbers, 20, 15);
+    let b = face_members::unless_null(out, a, numbers, STATUS, 15);
     let c = text_out::put_bytes(out, b, b",\"status_text\":");
     face_members::put_words(out, c, numbers)
 }
@@ -332,13 +400,13 @@ fn put_motion(out: &mut [u8], at: usize, numbers: &[u64], texts: &[u8]) -> usize
         ≡ put (text at (now (out .entry))) (printed motionMembers (now (numbers .entry)) (now (texts .entry))) ⌝ }
 {
     let a = text_out::put_bytes(out, at, b",\"turn\":");
-    let b = face_members::value_or_null(out, a, numbers, texts, 21, 2, 22);
+    let b = face_members::value_or_null(out, a, numbers, texts, TURN_THERE, SIGNED, TURN);
     let c = text_out::put_bytes(out, b, b",\"turn_rate\":");
-    let d = face_members::value_or_null(out, c, numbers, texts, 23, 10, 24);
+    let d = face_members::value_or_null(out, c, numbers, texts, RATE_THERE, FLOAT, RATE);
     let e = text_out::put_bytes(out, d, b",\"speed\":");
-    let f = face_members::value_or_null(out, e, numbers, texts, 26, 3, 28);
+    let f = face_members::value_or_null(out, e, numbers, texts, SPEED_THERE, TENTHS, SPEED_RAW);
     let g = text_out::put_bytes(out, f, b",\"speed_raw\":");
-    face_rows::put_value(out, g, 1, 28, 0, numbers, texts)
+    face_rows::put_value(out, g, NUMBER, SPEED_RAW, 0, numbers, texts)
 }
 
 // Its position.
@@ -347,15 +415,31 @@ fn put_place(out: &mut [u8], at: usize, numbers: &[u64], texts: &[u8]) -> usize
         ≡ put (text at (now (out .entry))) (printed placeMembers (now (numbers .entry)) (now (texts .entry))) ⌝ }
 {
     let a = text_out::put_bytes(out, at, b",\"accuracy\":");
-    let b = face_members::put_flag(out, a, numbers, 29);
+    let b = face_members::put_flag(out, a, numbers, ACCURACY);
     let c = text_out::put_bytes(out, b, b",\"lon\":");
-    let d = face_members::value_or_null(out, c, numbers, texts, 30, 4, 32);
+    let d = face_members::value_or_null(
+        out,
+        c,
+        numbers,
+        texts,
+        LONGITUDE_THERE,
+        DEGREES,
+        LONGITUDE_RAW,
+    );
     let e = text_out::put_bytes(out, d, b",\"lon_raw\":");
-    let f = face_rows::put_value(out, e, 2, 32, 0, numbers, texts);
+    let f = face_rows::put_value(out, e, SIGNED, LONGITUDE_RAW, 0, numbers, texts);
     let g = text_out::put_bytes(out, f, b",\"lat\":");
-    let h = face_members::value_or_null(out, g, numbers, texts, 33, 4, 35);
+    let h = face_members::value_or_null(
+        out,
+        g,
+        numbers,
+        texts,
+        LATITUDE_THERE,
+        DEGREES,
+        LATITUDE_RAW,
+    );
     let i = text_out::put_bytes(out, h, b",\"lat_raw\":");
-    face_rows::put_value(out, i, 2, 35, 0, numbers, texts)
+    face_rows::put_value(out, i, SIGNED, LATITUDE_RAW, 0, numbers, texts)
 }
 
 // Its course and heading.
@@ -364,13 +448,13 @@ fn put_course(out: &mut [u8], at: usize, numbers: &[u64], texts: &[u8]) -> usize
         ≡ put (text at (now (out .entry))) (printed courseMembers (now (numbers .entry)) (now (texts .entry))) ⌝ }
 {
     let a = text_out::put_bytes(out, at, b",\"course\":");
-    let b = face_members::value_or_null(out, a, numbers, texts, 36, 3, 38);
+    let b = face_members::value_or_null(out, a, numbers, texts, COURSE_THERE, TENTHS, COURSE_RAW);
     let c = text_out::put_bytes(out, b, b",\"course_raw\":");
-    let d = face_rows::put_value(out, c, 1, 38, 0, numbers, texts);
+    let d = face_rows::put_value(out, c, NUMBER, COURSE_RAW, 0, numbers, texts);
     let e = text_out::put_bytes(out, d, b",\"heading\":");
-    let f = face_members::value_or_null(out, e, numbers, texts, 39, 1, 40);
+    let f = face_members::value_or_null(out, e, numbers, texts, HEADING_THERE, NUMBER, HEADING);
     let g = text_out::put_bytes(out, f, b",\"second\":");
-    face_rows::put_value(out, g, 1, 41, 0, numbers, texts)
+    face_rows::put_value(out, g, NUMBER, SECOND, 0, numbers, texts)
 }
 
 // What is last, by its table: a further member is a row there.
@@ -386,7 +470,7 @@ fn put_part(out: &mut [u8], at: usize, numbers: &[u64], texts: &[u8]) -> usize
     ensures { λ r. ⌜ text r (now (out .exit))
         ≡ put (text at (now (out .entry))) (printed (tableOf 2 (getD (now (numbers .entry)) 20 0)) (now (numbers .entry)) (now (texts .entry))) ⌝ }
 {
-    let part = face_rows::number_at(numbers, 20);
+    let part = face_rows::number_at(numbers, PART);
     match part {
         1 => put_craft(out, at, numbers, texts),
         _ => put_static(out, at, numbers, texts),
