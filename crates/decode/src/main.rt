@@ -57,13 +57,9 @@ fn after_turn(
 // A run after what is done between two lines.
 fn after(gone: Gone, told: Kept) -> Run {
     let source = gone.source;
-    let state = told.state;
     let way = gone.way;
-    let kept = Kept {
-        state: state,
-        number: told.number,
-        used: gone.used,
-    };
+    let mut kept = told;
+    kept.used = gone.used;
     Run {
         source: source,
         kept: kept,
