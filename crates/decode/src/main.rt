@@ -5,11 +5,10 @@ use inputs::Source;
 use inputs::Way;
 use json::Kept;
 use json::Show;
-use libc::STDOUT_FILENO;
 
 const PROGRAM: [u8; 6] = *b"decode";
 
-// Where lines come from, what is kept of them, and how far the run is.
+// Where lines come from, what is kept of them beside the record, and how far the run is.
 struct Run {
     source: Source,
     kept: Kept,
@@ -17,9 +16,10 @@ struct Run {
 }
 
 // The next line, answered; between two lines what was told is written and more is read.
-fn answer_one(
+fn answer_next(
     s: Run,
     show: Show,
+    state: &mut [u8],
     block: &mut [u8],
     line: &mut [u8],
     out: &mut [u8],
@@ -27,31 +27,12 @@ fn answer_one(
 ) -> Run {
     let source = s.source;
     let kept = s.kept;
-    let t = decoding::turn(source.input, kept, show, block, line, out, tally);
+    let t = decoding::turn(source.input, kept, show, state, block, line, out, tally);
     let told = t.kept;
     let next = t.next;
     let rest = inputs::taken(source, t.input);
     let gone = inputs::go_on(&PROGRAM, told.number, rest, next, told.used, block, out);
-    after_turn(gone, told, show, line, out, tally)
-}
-
-// After what is done between two lines: at the end of an input its last line is answered.
-fn after_turn(
-    gone: Gone,
-    told: Kept,
-    show: Show,
-    line: &[u8],
-    out: &mut [u8],
-    tally: &mut [u64],
-) -> Run {
-    let way = gone.way;
-    match way {
-        Way::Last => answer_last(gone.source, told, show, line, out, tally),
-        Way::On => after(gone, told),
-        Way::Ended => after(gone, told),
-        Way::Stopped => after(gone, told),
-        Way::Failed => after(gone, told),
-    }
+    after(gone, told)
 }
 
 // A run after what is done between two lines.
@@ -69,24 +50,46 @@ fn after(gone: Gone, told: Kept) -> Run {
 
 // At the end of an input what is held is its last line; the output buffer was written. Then comes the next input, if there is one.
 fn answer_last(
-    source: Source,
-    kept: Kept,
+    s: Run,
     show: Show,
+    state: &mut [u8],
     line: &[u8],
     out: &mut [u8],
     tally: &mut [u64],
 ) -> Run {
-    let written = decoding::written(kept);
-    let t = decoding::last_turn(source.input, written, show, line, out, tally);
+    let source = s.source;
+    let kept = s.kept;
+    let t = decoding::last_turn(source.input, kept, show, state, line, out, tally);
     let told = t.kept;
     let gone = inputs::next_input(&PROGRAM, told.number, source, told.used);
     after(gone, told)
+}
+
+// One line more: the next one, or the last one of an input.
+fn answer_one(
+    s: Run,
+    show: Show,
+    state: &mut [u8],
+    block: &mut [u8],
+    line: &mut [u8],
+    out: &mut [u8],
+    tally: &mut [u64],
+) -> Run {
+    let way = s.way;
+    match way {
+        Way::On => answer_next(s, show, state, block, line, out, tally),
+        Way::Last => answer_last(s, show, state, line, out, tally),
+        Way::Ended => s,
+        Way::Stopped => s,
+        Way::Failed => s,
+    }
 }
 
 // All lines. Nothing says that an input ends, so the loop counts its rounds down, from a number that no run uses up.
 fn answer_all(
     s: Run,
     show: Show,
+    state: &mut [u8],
     block: &mut [u8],
     line: &mut [u8],
     out: &mut [u8],
@@ -99,7 +102,7 @@ fn answer_all(
         if !inputs::is_on(way) {
             return now;
         }
-        now = answer_one(now, show, block, line, out, tally);
+        now = answer_one(now, show, state, block, line, out, tally);
         rounds -= 1;
     }
     now
@@ -109,35 +112,33 @@ fn answer_all(
 fn answer_inputs(asked: Asked) -> u8 {
     let mut out = io::large_buffer();
     let mut block = io::large_buffer();
+    let mut state = [0u8; 400];
     let mut line = [0u8; 1024];
     let mut tally = [0u64; 256];
-    let fresh = reassembly::fresh();
-    let none = Kept {
-        state: fresh,
-        number: 0,
-        used: 0,
-    };
+    let none = Kept { number: 0, used: 0 };
     let begun = after(inputs::first_input(&PROGRAM, asked.inputs), none);
     let show = decoding::show_of(asked.quiet);
-    let end = answer_all(begun, show, &mut block, &mut line, &mut out, &mut tally);
+    let end = answer_all(
+        begun,
+        show,
+        &mut state,
+        &mut block,
+        &mut line,
+        &mut out,
+        &mut tally,
+    );
     let kept = end.kept;
     let way = end.way;
     let status = inputs::finish(&PROGRAM, kept.number, way, &out, kept.used);
-    say_end(kept, asked.summary, &tally);
+    say_end(&state, asked.summary, &tally);
     status
 }
 
 // What is said on standard error at the end: a message that is unfinished, and counts where they are asked.
-fn say_end(kept: Kept, counts: bool, tally: &[u64]) {
+fn say_end(state: &[u8], counts: bool, tally: &[u64]) {
     let mut words = io::buffer();
-    let state = kept.state;
-    let a = json::put_unfinished(&mut words, 0, state);
-    if counts {
-        let b = summary::put_summary(&mut words, a, tally);
-        stream::say(&words, b);
-        return;
-    }
-    stream::say(&words, a);
+    let n = summary::put_end(&mut words, 0, state, counts, tally);
+    stream::say(&words, n);
 }
 
 // What the words of the command line ask.
@@ -176,17 +177,14 @@ fn answer(asked: Asked) -> u8 {
 
 // The usage. Answers the status.
 fn help() -> u8 {
-    let usage = b"usage: decode [--quiet] [--summary] [FILE..]\n\
+    inputs::put_usage(
+        b"usage: decode [--quiet] [--summary] [FILE..]\n\
       Reads AIS lines from the files in turn, or from standard input where none is named or the name is -,\n\
       and writes a JSON object for each complete message and each refused line, one to a line.\n  \
       --quiet    no objects for refused lines\n  \
       --summary  at the end, counts by type and by refusal on standard error\n  \
-      --help     this text\n";
-    if stream::write_out(STDOUT_FILENO, usage, usage.len()) {
-        0
-    } else {
-        1
-    }
+      --help     this text\n",
+    )
 }
 
 fn main() {

@@ -17,21 +17,21 @@ pub record Answered : Type 0 where
   pub number : ℕ
   pub left : Left
 
-abbrev pub answeredIn : Kept → List ℕ → List ℕ → Answered
-answeredIn k out tally = record { number = k .number; left = leftWith (k .state) (k .used) out tally }
+abbrev pub answeredIn : Kept → List ℕ → List ℕ → List ℕ → Answered
+answeredIn k state out tally = record { number = k .number; left = leftWith state (k .used) out tally }
 
 -- one line more is counted; no input has so many that a u64 could not tell it
 abbrev pub following : ℕ → ℕ
 following n = min (n + 1) (2 ^ 64 - 1)
 
 -- what came is answered: a line by what reading it gives, one that is too long by refusal 1; where nothing came, nothing changes
-abbrev pub answeredOf : Show → Kept → Next → List ℕ → List ℕ → List ℕ → Answered
-answeredOf show k (Next.Line n) line out tally =
-    record { number = following (k .number); left = leftOf show (k .state) (following (k .number)) (take n line) (k .used) out tally }
-answeredOf show k Next.TooLong line out tally =
-    record { number = following (k .number); left = leftLong show (k .state) (following (k .number)) line (k .used) out tally }
-answeredOf show k Next.Nothing line out tally = answeredIn k out tally
-answeredOf show k Next.Room line out tally = answeredIn k out tally
+abbrev pub answeredOf : Show → Kept → Next → List ℕ → List ℕ → List ℕ → List ℕ → Answered
+answeredOf show k (Next.Line n) state line out tally =
+    record { number = following (k .number); left = leftOf show state (following (k .number)) (take n line) (k .used) out tally }
+answeredOf show k Next.TooLong state line out tally =
+    record { number = following (k .number); left = leftLong show state (following (k .number)) line (k .used) out tally }
+answeredOf show k Next.Nothing state line out tally = answeredIn k state out tally
+answeredOf show k Next.Room state line out tally = answeredIn k state out tally
 
 -- a turn: how far the input was taken, what came, the answer, and the line's buffer
 pub record Turns : Type 0 where
@@ -40,21 +40,21 @@ pub record Turns : Type 0 where
   pub answered : Answered
   pub line : List ℕ
 
-abbrev pub turnIn : Turned → List ℕ → List ℕ → List ℕ → Turns
-turnIn t line out tally = record { input = t .input; next = t .next; answered = answeredIn (t .kept) out tally; line = line }
+abbrev pub turnIn : Turned → List ℕ → List ℕ → List ℕ → List ℕ → Turns
+turnIn t state line out tally = record { input = t .input; next = t .next; answered = answeredIn (t .kept) state out tally; line = line }
 
-abbrev pub turnBy : Show → Kept → List ℕ → List ℕ → Given → Turns
-turnBy show k out tally g =
+abbrev pub turnBy : Show → Kept → List ℕ → List ℕ → List ℕ → Given → Turns
+turnBy show k state out tally g =
     record {
       input = g .taken .input;
       next = g .taken .next;
-      answered = answeredOf show k (g .taken .next) (g .line) out tally;
+      answered = answeredOf show k (g .taken .next) state (g .line) out tally;
       line = g .line;
     }
 
 -- the next line that ends in the block, of at most 1,024 bytes without the one CR that is removed
-unfoldable pub turnOf : Show → Input → Kept → List ℕ → List ℕ → List ℕ → List ℕ → Turns
-turnOf show input k block line out tally = turnBy show k out tally (inBlock 1024 true input block line)
+unfoldable pub turnOf : Show → Input → Kept → List ℕ → List ℕ → List ℕ → List ℕ → List ℕ → Turns
+turnOf show input k state block line out tally = turnBy show k state out tally (inBlock 1024 true input block line)
 
 -- at the end of the input
 pub record Lasts : Type 0 where
@@ -62,15 +62,11 @@ pub record Lasts : Type 0 where
   pub next : Next
   pub answered : Answered
 
-abbrev pub lastIn : Turned → List ℕ → List ℕ → Lasts
-lastIn t out tally = record { input = t .input; next = t .next; answered = answeredIn (t .kept) out tally }
+abbrev pub lastIn : Turned → List ℕ → List ℕ → List ℕ → Lasts
+lastIn t state out tally = record { input = t .input; next = t .next; answered = answeredIn (t .kept) state out tally }
 
-abbrev pub lastBy : Show → Kept → List ℕ → List ℕ → List ℕ → Taken → Lasts
-lastBy show k line out tally t = record { input = t .input; next = t .next; answered = answeredOf show k (t .next) line out tally }
+abbrev pub lastBy : Show → Kept → List ℕ → List ℕ → List ℕ → List ℕ → Taken → Lasts
+lastBy show k state line out tally t = record { input = t .input; next = t .next; answered = answeredOf show k (t .next) state line out tally }
 
-unfoldable pub lastOf : Show → Input → Kept → List ℕ → List ℕ → List ℕ → Lasts
-lastOf show input k line out tally = lastBy show k line out tally (atEnd 1024 true input line)
-
--- what is kept once the output buffer was written
-abbrev pub writtenOf : Kept → Kept
-writtenOf k = record { state = k .state; number = k .number; used = 0 }
+unfoldable pub lastOf : Show → Input → Kept → List ℕ → List ℕ → List ℕ → List ℕ → Lasts
+lastOf show input k state line out tally = lastBy show k state line out tally (atEnd 1024 true input line)

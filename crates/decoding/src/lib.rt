@@ -6,13 +6,13 @@ use json::Show;
 use stream::Input;
 use stream::Next;
 ghost use mathlib.Core.Path.{_≡_};
-ghost use Rattle.decoding.specs.Turn.{answeredOf, answeredIn, turnOf, turnIn, lastOf, lastIn, writtenOf};
+ghost use Rattle.decoding.specs.Turn.{answeredOf, answeredIn, turnOf, turnIn, lastOf, lastIn};
 ghost use Rattle.decoding.specs.Asked.{askedNothing, askedBy, optionBy, showOf};
 
 // Document 01: "line over 1,024 bytes" is refused. A CR before the LF is not one of them.
 const MOST: u16 = 1024;
 
-// What a turn gives back: how far the input was taken, what is kept of its lines, and what came.
+// What a turn gives back: how far the input was taken, what is kept of its lines beside the record, and what came.
 pub struct Turned {
     pub input: Input,
     pub kept: Kept,
@@ -24,20 +24,21 @@ pub fn turn(
     input: Input,
     kept: Kept,
     show: Show,
+    state: &mut [u8],
     block: &[u8],
     line: &mut [u8],
     out: &mut [u8],
     tally: &mut [u64],
 ) -> Turned
-    ensures { λ r. ⌜ turnIn r (now (line .exit)) (now (out .exit)) (now (tally .exit))
-        ≡ turnOf show input kept (now (block .entry)) (now (line .entry)) (now (out .entry)) (now (tally .entry)) ⌝ }
+    ensures { λ r. ⌜ turnIn r (now (state .exit)) (now (line .exit)) (now (out .exit)) (now (tally .exit))
+        ≡ turnOf show input kept (now (state .entry)) (now (block .entry)) (now (line .entry)) (now (out .entry)) (now (tally .entry)) ⌝ }
 {
     let t = stream::next_line(input, MOST, true, block, line);
     let rest = t.input;
     let next = t.next;
     Turned {
         input: rest,
-        kept: answer_next(kept, next, show, line, out, tally),
+        kept: answer_next(kept, next, show, state, line, out, tally),
         next: next,
     }
 }
@@ -47,32 +48,21 @@ pub fn last_turn(
     input: Input,
     kept: Kept,
     show: Show,
+    state: &mut [u8],
     line: &[u8],
     out: &mut [u8],
     tally: &mut [u64],
 ) -> Turned
-    ensures { λ r. ⌜ lastIn r (now (out .exit)) (now (tally .exit))
-        ≡ lastOf show input kept (now (line .entry)) (now (out .entry)) (now (tally .entry)) ⌝ }
+    ensures { λ r. ⌜ lastIn r (now (state .exit)) (now (out .exit)) (now (tally .exit))
+        ≡ lastOf show input kept (now (state .entry)) (now (line .entry)) (now (out .entry)) (now (tally .entry)) ⌝ }
 {
     let t = stream::last_line(input, MOST, true, line);
     let rest = t.input;
     let next = t.next;
     Turned {
         input: rest,
-        kept: answer_next(kept, next, show, line, out, tally),
+        kept: answer_next(kept, next, show, state, line, out, tally),
         next: next,
-    }
-}
-
-// What is kept once the output buffer was written.
-pub fn written(kept: Kept) -> Kept
-    ensures { λ r. ⌜ r ≡ writtenOf kept ⌝ }
-{
-    let state = kept.state;
-    Kept {
-        state: state,
-        number: kept.number,
-        used: 0,
     }
 }
 
@@ -81,15 +71,16 @@ fn answer_next(
     s: Kept,
     next: Next,
     show: Show,
+    state: &mut [u8],
     line: &[u8],
     out: &mut [u8],
     tally: &mut [u64],
 ) -> Kept
-    ensures { λ r. ⌜ answeredIn r (now (out .exit)) (now (tally .exit))
-        ≡ answeredOf show s next (now (line .entry)) (now (out .entry)) (now (tally .entry)) ⌝ }
+    ensures { λ r. ⌜ answeredIn r (now (state .exit)) (now (out .exit)) (now (tally .exit))
+        ≡ answeredOf show s next (now (state .entry)) (now (line .entry)) (now (out .entry)) (now (tally .entry)) ⌝ }
 {
     match next {
-        Next::Line(n) => json::answer_line(s, n, line, show, out, tally),
+        Next::Line(n) => json::answer_line(s, n, line, show, state, out, tally),
         Next::TooLong => json::answer_long(s, line, show, out, tally),
         Next::Nothing => s,
         Next::Room => s,

@@ -8,6 +8,7 @@ use stream::Input;
 use stream::Next;
 ghost use mathlib.Core.Path.{_≡_};
 ghost use Rattle.io.specs.Counts.{Counts};
+ghost use Prim.Native.Nat.{_≤_};
 ghost use lib.ListN.{length};
 ghost use Rattle.text_out.specs.Text.{text, put};
 ghost use Rattle.inputs.specs.Words.{wordOf, isInput, unknownText, namedText};
@@ -48,6 +49,17 @@ fn is_input(word: &[u8]) -> bool
         return true;
     }
     word[0] != b'-'
+}
+
+// The usage, on standard output. Answers the status: 1 where it could not be written.
+pub fn put_usage(text: &[u8]) -> u8
+    ensures { λ r. ⌜ r ≤ 1 ⌝ }
+{
+    if stream::write_out(STDOUT_FILENO, text, text.len()) {
+        0
+    } else {
+        1
+    }
 }
 
 // Whether argument i, where it names a file, can be read. Where it cannot, the system's reason is said on standard error.

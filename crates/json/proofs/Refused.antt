@@ -1,16 +1,18 @@
 -- What the table of face_json says of a refused line is what json/specs/Object says of its number, its values and what is told beside them. Assumes nothing.
-use Prim.Native.Nat.{ℕ, _+_, _≤_, min}
+use Prim.Native.Nat.{ℕ, _≤_, min}
 use native.Mathlib.Omega.{arith}
 use mathlib.Core.Path.{_≡_, refl, ap, _∙_}
 use mathlib.Core.Bool.{Bool, true, false, not}
 use mathlib.Core.List.{List, [], _∷_, _++_, append-nil}
 use lib.Dec.{eqb, leb}
-use lib.ListN.{length, getD, take}
+use lib.ListN.{length, getD, take, drop, replicate}
 use lib.Seq.{take-take}
 use Rattle.refusal.specs.Words.{pick}
 use Rattle.refusal.specs.Refusal.{rowOf}
+use Rattle.refusal.specs.Values.{countBy}
+use Rattle.refusal.proofs.Unique.{counted}
 use Rattle.refusal.specs.declared.Refusal.{Refusal}
-use Rattle.text_out.specs.Text.{ascii}
+use Rattle.text_out.specs.Text.{Text, text, put, put1, ascii}
 use Rattle.text_out.specs.Digits.{decimalOf}
 use Rattle.text_out.proofs.Laws.{take-min}
 use Rattle.layout_position.specs.Position.{flagOf}
@@ -22,7 +24,7 @@ use Rattle.face_rows.specs.Reasons.{reasons}
 use Rattle.face_json.specs.Refused.{valuesTable, checksumTable, typeTable, reasonTable, refusedTable}
 use Rattle.face_json.specs.Line.{refusedLine}
 use Rattle.json.specs.Object.{member, array, reasonOf, sumMembers, typeMembers, About, refusedObject}
-use Rattle.json.specs.Answer.{refusedNumbers}
+use Rattle.json.specs.Laid.{refusedNumbers}
 use Rattle.face_rows.proofs.Says.{Says, _then_, whole, said, row-says, row-silent, group-says, group-silent}
 use Rattle.face_members.proofs.Members.{words-say, member-says, member-if-says}
 use Rattle.face_rows.proofs.Chosen.{Tells, chosen-says}
@@ -150,22 +152,51 @@ few-values (Refusal.UnknownType n) = omega arith
 few-values Refusal.Room = omega arith
 few-values Refusal.Request = omega arith
 
+pub numbered : (r : Refusal) → (1 ≤ rowOf r .number) × (rowOf r .number ≤ 13)
+numbered Refusal.LineTooLong = (omega arith, omega arith)
+numbered Refusal.Line = (omega arith, omega arith)
+numbered (Refusal.Checksum expected found) = (omega arith, omega arith)
+numbered Refusal.MessageNumber = (omega arith, omega arith)
+numbered Refusal.FragmentNumber = (omega arith, omega arith)
+numbered Refusal.PayloadTooLong = (omega arith, omega arith)
+numbered Refusal.Fill = (omega arith, omega arith)
+numbered (Refusal.Armour offset) = (omega arith, omega arith)
+numbered Refusal.Short = (omega arith, omega arith)
+numbered (Refusal.OtherType n) = (omega arith, omega arith)
+numbered (Refusal.UnknownType n) = (omega arith, omega arith)
+numbered Refusal.Room = (omega arith, omega arith)
+numbered Refusal.Request = (omega arith, omega arith)
+
 small-number : (r : Refusal) → min (rowOf r .number) 14 ≡ rowOf r .number
-small-number Refusal.LineTooLong = refl
-small-number Refusal.Line = refl
-small-number (Refusal.Checksum expected found) = refl
-small-number Refusal.MessageNumber = refl
-small-number Refusal.FragmentNumber = refl
-small-number Refusal.PayloadTooLong = refl
-small-number Refusal.Fill = refl
-small-number (Refusal.Armour offset) = refl
-small-number Refusal.Short = refl
-small-number (Refusal.OtherType n) = refl
-small-number (Refusal.UnknownType n) = refl
-small-number Refusal.Room = refl
-small-number Refusal.Request = refl
+small-number r = let n = numbered r in omega (arith, n .1)
 
 pub refusal-said : (line : ℕ) (r : Refusal) (about : About)
     → refusedLine (refusedNumbers line (rowOf r .number) (rowOf r .values) about) (take 100 (about .text))
     ≡ refusedObject line (rowOf r .number) (rowOf r .values) about
 refusal-said line r about = refused-line line (rowOf r .number) (rowOf r .values) (few-values r) (small-number r) about
+
+-- ---- in the code: the numbers of a refused line, put into zeros in two runs, and its table
+numbers-put : (line n : ℕ) (values : List ℕ) (about : About) {p q : ℕ} {one all : List ℕ}
+    → text q one ≡ put (text 0 (replicate 59 0)) (getD values 0 0 ∷ getD values 1 0 ∷ [])
+    → text p all ≡ put (text 50 one) (drop 50 (refusedNumbers line n values about)) → all ≡ refusedNumbers line n values about
+unfolding put put1
+numbers-put line n values about {p} {q} {one} {all} e f =
+    ap (λ (t : Text). t .bytes) f ∙ ap (λ (t : Text). put (text 50 (t .bytes)) (drop 50 (refusedNumbers line n values about)) .bytes) e
+
+pub refused-put : (line : ℕ) (about : About) (before : Text) {code first second count shown cut other p q : ℕ} {one all : List ℕ} {after : Text}
+    → count ≡ countBy code → shown ≡ min 100 (length (about .text)) → cut ≡ flagOf (about .cut) → other ≡ flagOf (about .other)
+    → text q one ≡ put (text 0 (replicate 59 0)) (first ∷ second ∷ [])
+    → text p all ≡ put (text 50 one) (line ∷ 0 ∷ code ∷ count ∷ shown ∷ cut ∷ about .sender .there ∷ about .sender .value ∷ other ∷ [])
+    → after ≡ put before (refusedLine all (take shown (about .text)))
+    → (r : Refusal) → code ≡ rowOf r .number → first ≡ getD (rowOf r .values) 0 0 → second ≡ getD (rowOf r .values) 1 0
+    → after ≡ put before (refusedObject line (rowOf r .number) (rowOf r .values) about)
+refused-put line about before {code} {first} {second} {count} {shown} {cut} {other} {p} {q} {one} {all} {after} is-count is-shown is-cut is-other e f g r is-code
+    is-first is-second =
+    let values = rowOf r .values in
+    let t = about .text in
+    let n : count ≡ length values = is-count ∙ ap countBy is-code ∙ counted r in
+    let laid : all ≡ refusedNumbers line (rowOf r .number) values about =
+    numbers-put line (rowOf r .number) values about (rw (is-first, is-second) at e) (rw (n, is-code, is-shown, is-cut, is-other) at f) in
+    g ∙ ap (λ (l : List ℕ). put before (refusedLine l (take shown t))) laid
+    ∙ ap (λ (s : List ℕ). put before (refusedLine (refusedNumbers line (rowOf r .number) values about) s)) (ap (λ (i : ℕ). take i t) is-shown ∙ take-min 100 t)
+    ∙ ap (put before) (refusal-said line r about)

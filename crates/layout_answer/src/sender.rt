@@ -6,7 +6,7 @@ ghost use mathlib.Core.Path.{_≡_};
 ghost use Rattle.layout_answer.specs.Sender.{plainOf, mmsiOf, senderBy, senderOf};
 
 // The sender of a line that was refused with this number, where it is told.
-pub fn sender_of(code: u8, found: Record, line: &[u8]) -> Optional
+pub fn sender_of(code: u32, found: Record, line: &[u8]) -> Optional
     ensures { λ r. ⌜ r ≡ senderOf code found (now (line .entry)) ⌝ }
 {
     if code == 10 {

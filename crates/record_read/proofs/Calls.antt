@@ -40,7 +40,7 @@ use Rattle.layout_told.specs.Told.{Hears}
 use Rattle.record_read.specs.Read.{Leaves, Reads, Ends, readIn, flattened, readOf}
 
 -- numbers or bytes that fit, put from the start on, stand first
-first : (s lent : List ℕ) → length s ≤ length lent → put (text 0 lent) s .bytes ≡ over s lent
+pub first : (s lent : List ℕ) → length s ≤ length lent → put (text 0 lent) s .bytes ≡ over s lent
 first s lent h =
     let z : 0 + length s ≡ length s = omega arith in
     ap (λ (x : Text). x .bytes) (put-fits 0 lent s (omega (arith, h))) ∙ rw z

@@ -6,7 +6,7 @@ use lib.Dec.{eqb}
 use lib.ListN.{length, getD}
 use Rattle.refusal.specs.Words.{pick, Told, taken, refused}
 use Rattle.refusal.specs.Refusal.{rowOf, told}
-use Rattle.refusal.specs.Values.{Returned}
+use Rattle.refusal.specs.Values.{Returned, countBy}
 use Rattle.refusal.specs.declared.Refusal.{Refusal}
 use Rattle.refusal.specs.declared.Values.{Values}
 use Rattle.refusal.specs.declared.Refusal.the-variants.{LineTooLong, Line, Checksum, MessageNumber, FragmentNumber, PayloadTooLong, Fill}
@@ -67,3 +67,19 @@ returned-by values v h =
 
 pub returned-unique : (values : List ℕ) (v w : Values) → Returned values v → Returned values w → v ≡ w
 returned-unique values v w p q = returned-by values v p ∙ sym (returned-by values w q)
+
+-- how many values a refusal returns is told by its number
+pub counted : (r : Refusal) → countBy (rowOf r .number) ≡ length (rowOf r .values)
+counted LineTooLong = refl
+counted Line = refl
+counted (Checksum expected found) = refl
+counted MessageNumber = refl
+counted FragmentNumber = refl
+counted PayloadTooLong = refl
+counted Fill = refl
+counted (Armour offset) = refl
+counted Short = refl
+counted (OtherType n) = refl
+counted (UnknownType n) = refl
+counted Room = refl
+counted Request = refl

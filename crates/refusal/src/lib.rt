@@ -2,7 +2,7 @@
 ghost use mathlib.Core.Path.{_≡_};
 ghost use mathlib.Core.List.{[], _∷_};
 ghost use Rattle.refusal.specs.Refusal.{rowOf};
-ghost use Rattle.refusal.specs.Values.{Returned};
+ghost use Rattle.refusal.specs.Values.{Returned, countBy};
 
 // In document 01's order, from 1 to 13, with what is also returned.
 pub enum Refusal {
@@ -74,6 +74,19 @@ pub fn values_of(refusal: Refusal) -> Values
         Refusal::UnknownType { message_type } => one(message_type as u64),
         Refusal::Room => none(),
         Refusal::Request => none(),
+    }
+}
+
+// How many values a refusal of this number returns, for programs that hold its number alone.
+pub fn count_of(number: u32) -> u64
+    ensures { λ r. ⌜ r ≡ countBy number ⌝ }
+{
+    match number {
+        3 => 2,
+        8 => 1,
+        10 => 1,
+        11 => 1,
+        _ => 0,
     }
 }
 

@@ -1,8 +1,12 @@
-// Counts of lines by what was answered, and the text of them for people: all lines, complete messages by type, unfinished ones, refused ones by number.
+// What is said at the end of the inputs, for people: what the record still holds of a message; and counts of lines by what was answered: all lines, complete
+// messages by type, unfinished ones, refused ones by number.
+use sentence::Number;
 ghost use mathlib.Core.Path.{_≡_};
 ghost use Rattle.text_out.specs.Text.{text, put};
 ghost use Rattle.summary.specs.Tally.{anotherKind, oneMore, bumped, countedOf};
+ghost use Rattle.record_bytes.specs.Bytes.{loadedOf};
 ghost use Rattle.summary.specs.Summary.{summaryOf};
+ghost use Rattle.summary.specs.Unfinished.{numberText, heldText, unfinishedText, endText};
 
 // The words of the table.
 const WORDS: [u8; 663] =
@@ -79,8 +83,64 @@ fn one_more(n: u64) -> u64
 }
 
 // The counts as text.
-pub fn put_summary(out: &mut [u8], at: usize, tally: &[u64]) -> usize
+fn put_summary(out: &mut [u8], at: usize, tally: &[u64]) -> usize
     ensures { λ r. ⌜ text r (now (out .exit)) ≡ put (text at (now (out .entry))) (summaryOf (now (tally .entry))) ⌝ }
 {
     face_rows::put_rows(out, at, &SUMMARY, &WORDS, tally, b"")
+}
+
+// All that is said at the end: a message that is unfinished, and the counts where they are asked.
+pub fn put_end(out: &mut [u8], at: usize, state: &[u8], counts: bool, tally: &[u64]) -> usize
+    ensures { λ r. ⌜ text r (now (out .exit))
+        ≡ put (text at (now (out .entry))) (endText (loadedOf (now (state .entry))) counts (now (tally .entry))) ⌝ }
+{
+    let a = put_unfinished(out, at, state);
+    if counts {
+        return put_summary(out, a, tally);
+    }
+    a
+}
+
+// What the record still holds of a message, and nothing where it holds none.
+fn put_unfinished(out: &mut [u8], at: usize, state: &[u8]) -> usize
+    ensures { λ r. ⌜ text r (now (out .exit)) ≡ put (text at (now (out .entry))) (unfinishedText (loadedOf (now (state .entry)))) ⌝ }
+{
+    let held = record_bytes::load(state);
+    let id = held.message_id;
+    put_held(out, at, id, held.fragment_number, held.len)
+}
+
+// What a record holds, by its message number, its fragment number and its length.
+fn put_held(out: &mut [u8], at: usize, id: Number, number: u8, len: usize) -> usize
+    ensures { λ r. ⌜ text r (now (out .exit)) ≡ put (text at (now (out .entry))) (heldText id number len) ⌝ }
+{
+    if len == 0 {
+        return at;
+    }
+    let a = text_out::put_bytes(out, at, b"unfinished message: ");
+    let b = put_id(out, a, id);
+    let c = text_out::put_bytes(out, b, b"lines so far: ");
+    let d = text_out::put_decimal(out, c, number as u64);
+    let e = text_out::put_bytes(out, d, b", characters: ");
+    let f = text_out::put_decimal(out, e, len as u64);
+    text_out::put_byte(out, f, 10)
+}
+
+// A message number, where there is one.
+fn put_id(out: &mut [u8], at: usize, id: Number) -> usize
+    ensures { λ r. ⌜ text r (now (out .exit)) ≡ put (text at (now (out .entry))) (numberText id) ⌝ }
+{
+    match id {
+        Number::Absent => at,
+        Number::Of(n) => put_number(out, at, n as u64),
+    }
+}
+
+// A number after its name.
+fn put_number(out: &mut [u8], at: usize, n: u64) -> usize
+    ensures { λ r. ⌜ text r (now (out .exit)) ≡ put (text at (now (out .entry))) (numberText (Number.Of n)) ⌝ }
+{
+    let a = text_out::put_bytes(out, at, b"number ");
+    let b = text_out::put_decimal(out, a, n);
+    text_out::put_bytes(out, b, b", ")
 }

@@ -3,7 +3,6 @@ use inputs::Gone;
 use inputs::Source;
 use inputs::Way;
 use inputs::Word;
-use libc::STDOUT_FILENO;
 use stream::Next;
 use trace_commands::Answered;
 
@@ -33,7 +32,7 @@ fn counted(number: u64, next: Next) -> u64 {
 }
 
 // The next command, answered; between two commands what was said is written and more is read.
-fn answer_one(s: Run, block: &mut [u8], line: &mut [u8], out: &mut [u8]) -> Run {
+fn answer_next(s: Run, block: &mut [u8], line: &mut [u8], out: &mut [u8]) -> Run {
     let source = s.source;
     let answered = s.answered;
     let state = answered.state;
@@ -43,19 +42,7 @@ fn answer_one(s: Run, block: &mut [u8], line: &mut [u8], out: &mut [u8]) -> Run 
     let rest = inputs::taken(source, t.input);
     let number = counted(s.number, next);
     let gone = inputs::go_on(&PROGRAM, number, rest, next, said.at, block, out);
-    after_turn(gone, number, said, line, out)
-}
-
-// After what is done between two commands: at the end of the input what is held is a last command, and the output buffer was written.
-fn after_turn(gone: Gone, number: u64, said: Answered, line: &[u8], out: &mut [u8]) -> Run {
-    let way = gone.way;
-    match way {
-        Way::Last => answer_last(gone.source, number, said, line, out),
-        Way::On => after(gone, number, said),
-        Way::Ended => after(gone, number, said),
-        Way::Stopped => after(gone, number, said),
-        Way::Failed => after(gone, number, said),
-    }
+    after(gone, number, said)
 }
 
 // A run after what is done between two commands.
@@ -75,19 +62,27 @@ fn after(gone: Gone, number: u64, said: Answered) -> Run {
     }
 }
 
-// The last command.
-fn answer_last(
-    source: Source,
-    number: u64,
-    answered: Answered,
-    line: &[u8],
-    out: &mut [u8],
-) -> Run {
+// At the end of the input what is held is its last command; the output buffer was written.
+fn answer_last(s: Run, line: &[u8], out: &mut [u8]) -> Run {
+    let source = s.source;
+    let answered = s.answered;
     let state = answered.state;
-    let t = trace_turn::last_turn(source.input, state, 0, line, out);
+    let t = trace_turn::last_turn(source.input, state, answered.at, line, out);
     let said = t.answered;
-    let gone = inputs::next_input(&PROGRAM, number, source, said.at);
-    after(gone, number, said)
+    let gone = inputs::next_input(&PROGRAM, s.number, source, said.at);
+    after(gone, s.number, said)
+}
+
+// One command more: the next one, or the last one.
+fn answer_one(s: Run, block: &mut [u8], line: &mut [u8], out: &mut [u8]) -> Run {
+    let way = s.way;
+    match way {
+        Way::On => answer_next(s, block, line, out),
+        Way::Last => answer_last(s, line, out),
+        Way::Ended => s,
+        Way::Stopped => s,
+        Way::Failed => s,
+    }
 }
 
 // All commands. Nothing says that the input ends, so the loop counts its rounds down, from a number that no run uses up.
@@ -173,14 +168,11 @@ fn answer(asked: Asked) -> u8 {
 
 // The usage. Answers the status.
 fn help() -> u8 {
-    let usage = b"usage: trace\n\
+    inputs::put_usage(
+        b"usage: trace\n\
       Reads commands of the comparing protocol from standard input, one to a line, and answers each with one line.\n  \
-      --help     this text\n";
-    if stream::write_out(STDOUT_FILENO, usage, usage.len()) {
-        0
-    } else {
-        1
-    }
+      --help     this text\n",
+    )
 }
 
 fn main() {

@@ -6,14 +6,14 @@ use Rattle.decode.proofs.answer_all.Statement.{statement}
 use Rattle.decode.proofs.answer_all.Tie as tie
 
 abbrev Inv-loop : tie.InvT-loop
-Inv-loop show block₀ line₀ out₀ tally₀ now₀ rounds₀ block line out tally now rounds =
-    (length block ≡ length block₀) × (length line ≡ length line₀) × (length out ≡ length out₀) × (length tally ≡ length tally₀)
+Inv-loop show state₀ block₀ line₀ out₀ tally₀ now₀ rounds₀ state block line out tally now rounds =
+    (length state ≡ length state₀) × (length block ≡ length block₀) × (length line ≡ length line₀) × (length out ≡ length out₀) × (length tally ≡ length tally₀)
 
 abbrev μ-loop : tie.MeasureT-loop
-μ-loop show block₀ line₀ out₀ tally₀ now₀ rounds₀ block line out tally now rounds = rounds
+μ-loop show state₀ block₀ line₀ out₀ tally₀ now₀ rounds₀ state block line out tally now rounds = rounds
 
 loop-holds : tie.Need-loop-holds Inv-loop μ-loop
-loop-holds c = (refl, refl, refl, refl)
+loop-holds c = (refl, refl, refl, refl, refl)
 
 is-on-requires : tie.Need-is-on-requires Inv-loop μ-loop
 is-on-requires c κs = search needs
@@ -30,6 +30,9 @@ same-length-3 c = search needs
 same-length-4 : tie.Need-same-length-4 Inv-loop μ-loop
 same-length-4 c = search needs
 
+same-length-5 : tie.Need-same-length-5 Inv-loop μ-loop
+same-length-5 c = search needs
+
 returns : tie.Need-returns Inv-loop μ-loop
 returns c = search needs
 
@@ -45,9 +48,6 @@ loop-less c = search needs
 loop-again : tie.Need-loop-again Inv-loop μ-loop
 loop-again c = search needs
 
-same-length-5 : tie.Need-same-length-5 Inv-loop μ-loop
-same-length-5 c = search needs
-
 same-length-6 : tie.Need-same-length-6 Inv-loop μ-loop
 same-length-6 c = search needs
 
@@ -56,6 +56,12 @@ same-length-7 c = search needs
 
 same-length-8 : tie.Need-same-length-8 Inv-loop μ-loop
 same-length-8 c = search needs
+
+same-length-9 : tie.Need-same-length-9 Inv-loop μ-loop
+same-length-9 c = search needs
+
+same-length-10 : tie.Need-same-length-10 Inv-loop μ-loop
+same-length-10 c = search needs
 
 returns-2 : tie.Need-returns-2 Inv-loop μ-loop
 returns-2 c = search needs
@@ -72,13 +78,15 @@ answer-all-spec =
     same-length-2
     same-length-3
     same-length-4
+    same-length-5
     returns
     answer-one-requires
     sub-rounds
     loop-less
     loop-again
-    same-length-5
     same-length-6
     same-length-7
     same-length-8
+    same-length-9
+    same-length-10
     returns-2)

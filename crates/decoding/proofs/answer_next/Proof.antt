@@ -28,23 +28,26 @@ same-length c = search needs
 same-length-2 : tie.Need-same-length-2
 same-length-2 c = search needs
 
-returns : tie.Need-returns
-returns c =
-    let said = c .before .before .before .before in
-    let came = said .before .before .before .before in
-    line-told _ _ _ _ _ _ _ _ _ (came .next .given .1) (said .answer-line .ensures .0) (said .answer-line .ensures .1)
-
 same-length-3 : tie.Need-same-length-3
 same-length-3 c = search needs
 
+returns : tie.Need-returns
+returns c =
+    let said = c .before .before .before .before .before .before in
+    let came = said .before .before .before .before .before in
+    line-told _ _ _ _ _ _ _ _ _ _ _ (came .next .given .1) (said .answer-line .ensures .0) (said .answer-line .ensures .1)
+
 same-length-4 : tie.Need-same-length-4
 same-length-4 c = search needs
+
+same-length-5 : tie.Need-same-length-5
+same-length-5 c = search needs
 
 returns-2 : tie.Need-returns-2
 returns-2 c =
     let said = c .before .before .before .before in
     let came = said .before .before .before in
-    long-told _ _ _ _ _ _ _ _ (came .enum-told .given .1) (said .answer-long .ensures .0) (said .answer-long .ensures .1)
+    long-told _ _ _ _ _ _ _ _ _ _ (came .enum-told .given .1) (said .answer-long .ensures .0 _) (said .answer-long .ensures .1)
 
 returns-3 : tie.Need-returns-3
 returns-3 c = rw (c .enum-told2 .given .1)
@@ -64,9 +67,10 @@ answer-next-spec =
     enum-told-3
     same-length
     same-length-2
-    returns
     same-length-3
+    returns
     same-length-4
+    same-length-5
     returns-2
     returns-3
     returns-4)

@@ -4,10 +4,6 @@ use Rattle.decoding.specs.Asked.{askedBy}
 use borrow.Author.Needs.{needs}
 use Rattle.decoding.proofs.asked_by.Statement.{statement}
 use Rattle.decoding.proofs.asked_by.Tie as tie
-use Rattle.decoding.proofs.asked_by.Reads as reads
-use Rattle.decoding.proofs.asked_by.Lts as lts
-use Rattle.inputs.proofs.word_of.Reads as word-of-reads
-use Rattle.decoding.proofs.asked_by_option.Reads as asked-by-option-reads
 
 word-of-requires : tie.Need-word-of-requires
 word-of-requires c κs = search needs

@@ -5,9 +5,6 @@ use Rattle.decoding.specs.Asked.{optionBy}
 use borrow.Author.Needs.{needs}
 use Rattle.decoding.proofs.asked_by_option.Statement.{statement}
 use Rattle.decoding.proofs.asked_by_option.Tie as tie
-use Rattle.decoding.proofs.asked_by_option.Reads as reads
-use Rattle.decoding.proofs.asked_by_option.Lts as lts
-use Rattle.lines.proofs.texts.same.Reads as same-reads
 
 slice-aggregate-same : tie.Need-slice-aggregate-same
 slice-aggregate-same c = search needs

@@ -19,11 +19,14 @@ same-length-2 c = search needs
 same-length-3 : tie.Need-same-length-3
 same-length-3 c = search needs
 
+same-length-4 : tie.Need-same-length-4
+same-length-4 c = search needs
+
 returns : tie.Need-returns
 returns c =
-    let said = c .before .before .before .before in
-    let taken = said .before .before .before .before .before .before .before in
-    turned _ _ _ _ _ _ _ _ _ _ _ _ (taken .next-line .ensures) (said .answer-next .ensures)
+    let said = c .before .before .before .before .before .before in
+    let taken = said .before .before .before .before .before .before .before .before in
+    turned _ _ _ _ _ _ _ _ _ _ _ _ _ _ (taken .next-line .ensures) (said .answer-next .ensures)
 
 pub turn-spec : {M : Type 1} → statement M
 turn-spec =
@@ -34,4 +37,5 @@ turn-spec =
     same-length
     same-length-2
     same-length-3
+    same-length-4
     returns)

@@ -27,15 +27,18 @@ same-length c = search needs
 same-length-2 : tie.Need-same-length-2
 same-length-2 c = search needs
 
+same-length-3 : tie.Need-same-length-3
+same-length-3 c = search needs
+
 returns : tie.Need-returns
 returns c =
-    let counted = c .before .before .before .before .before .before .before .before .before in
+    let counted = c .before .before .before .before .before .before .before .before .before .before .before in
     let cut = counted .before in
-    let s = cut .before .before .before .before .args in
+    let s = cut .before .before .before .before .before .args in
     let l = s .line .now in
     let n = counted .following .result in (
-      c .before .before .before .before .before .tell .ensures
-          ∙ ap (λ (m : List ℕ). leftOf (s .show) (s .s .state) n m (s .s .used) (s .out .now) (s .tally .now))
+      c .before .before .before .before .before .before .tell .ensures
+          ∙ ap (λ (m : List ℕ). leftOf (s .show) (s .state .now) n m (s .s .used) (s .out .now) (s .tally .now))
           (ap (λ (i : ℕ). take i l) (cut .up-to .ensures .0) ∙ take-min (s .n) l),
       counted .following .ensures,
     )
@@ -50,4 +53,5 @@ answer-line-spec =
     tell-requires
     same-length
     same-length-2
+    same-length-3
     returns)

@@ -1,4 +1,6 @@
 -- `json::answer_long` meets its contract. Assumes nothing.
+use Prim.Native.Nat.{ℕ}
+use mathlib.Core.List.{List}
 use Rattle.json.proofs.Calls.{left-same}
 use borrow.Author.Needs.{needs}
 use Rattle.json.proofs.answer_long.Statement.{statement}
@@ -21,9 +23,8 @@ same-length-2 c = search needs
 
 returns : tie.Need-returns
 returns c =
-    let counted = c .before .before .before .before .before .before .before .before in
-    let s = counted .before .before .before .before .before .args in (
-      left-same (s .s .state) (c .before .before .put-long .ensures) (c .before .before .before .before .before .before .count .ensures),
+    let counted = c .before .before .before .before .before .before .before .before in (
+      λ (state : List ℕ). left-same state (c .before .before .put-long .ensures) (c .before .before .before .before .before .before .count .ensures),
       counted .following .ensures,
     )
 

@@ -1,5 +1,6 @@
 -- `json::put_long` meets its contract. Assumes nothing.
-use mathlib.Core.Path.{sym}
+use mathlib.Core.Path.{refl, sym}
+use Rattle.refusal.specs.declared.Refusal.{Refusal}
 use Rattle.text_out.proofs.Laws.{put-nothing}
 use borrow.Author.Needs.{needs}
 use Rattle.json.proofs.put_long.Statement.{statement}
@@ -18,7 +19,9 @@ same-length : tie.Need-same-length
 same-length c = search needs
 
 returns : tie.Need-returns
-returns c = rw (c .before .before .before .before .enum-told .given .1) (c .before .before .put-refused .ensures)
+returns c =
+    rw (c .before .before .before .before .enum-told .given .1)
+    (c .before .before .put-refused .ensures Refusal.LineTooLong (record { its = refl; first = refl; second = refl }))
 
 returns-2 : tie.Need-returns-2
 returns-2 c = rw (c .enum-told2 .given .1) (sym (put-nothing _))

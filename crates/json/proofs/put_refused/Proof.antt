@@ -1,59 +1,44 @@
 -- `json::put_refused` meets its contract. Assumes nothing.
-use mathlib.Core.Path.{ap, _∙_}
-use Rattle.text_out.specs.Text.{text, put}
-use Rattle.text_out.proofs.Laws.{take-min}
-use Rattle.json.proofs.Refused.{refusal-said}
+use Rattle.refusal.specs.declared.Refusal.{Refusal}
+use Rattle.text_out.specs.Text.{text}
+use Rattle.json.specs.Laid.{Holds}
+use Rattle.json.proofs.Refused.{refused-put}
 use borrow.Author.Needs.{needs}
 use Rattle.json.proofs.put_refused.Statement.{statement}
 use Rattle.json.proofs.put_refused.Tie as tie
 
-number-requires : tie.Need-number-requires
-number-requires c κs = search needs
-
-values-of-requires : tie.Need-values-of-requires
-values-of-requires c κs = search needs
-
 up-to-requires : tie.Need-up-to-requires
 up-to-requires c κs = search needs
 
-array-write-numbers : tie.Need-array-write-numbers
-array-write-numbers c = search needs
-
-array-write-numbers-2 : tie.Need-array-write-numbers-2
-array-write-numbers-2 c = search needs
-
-array-write-numbers-3 : tie.Need-array-write-numbers-3
-array-write-numbers-3 c = search needs
-
-cast-numbers : tie.Need-cast-numbers
-cast-numbers c = search needs
-
-array-write-numbers-4 : tie.Need-array-write-numbers-4
-array-write-numbers-4 c = search needs
-
-array-write-numbers-5 : tie.Need-array-write-numbers-5
-array-write-numbers-5 c = search needs
-
-array-write-numbers-6 : tie.Need-array-write-numbers-6
-array-write-numbers-6 c = search needs
+count-of-requires : tie.Need-count-of-requires
+count-of-requires c κs = search needs
 
 flag-requires : tie.Need-flag-requires
 flag-requires c κs = search needs
 
-array-write-numbers-7 : tie.Need-array-write-numbers-7
-array-write-numbers-7 c = search needs
-
-array-write-numbers-8 : tie.Need-array-write-numbers-8
-array-write-numbers-8 c = search needs
-
-array-write-numbers-9 : tie.Need-array-write-numbers-9
-array-write-numbers-9 c = search needs
-
 flag-requires-2 : tie.Need-flag-requires-2
 flag-requires-2 c κs = search needs
 
-array-write-numbers-10 : tie.Need-array-write-numbers-10
-array-write-numbers-10 c = search needs
+cast-t14 : tie.Need-cast-t14
+cast-t14 c = search needs
+
+slice-aggregate-put-numbers : tie.Need-slice-aggregate-put-numbers
+slice-aggregate-put-numbers c = search needs
+
+slice-aggregate-put-numbers-2 : tie.Need-slice-aggregate-put-numbers-2
+slice-aggregate-put-numbers-2 c = search needs
+
+put-numbers-requires : tie.Need-put-numbers-requires
+put-numbers-requires c κs = search needs
+
+slice-aggregate-put-numbers-3 : tie.Need-slice-aggregate-put-numbers-3
+slice-aggregate-put-numbers-3 c = search needs
+
+slice-aggregate-put-numbers-4 : tie.Need-slice-aggregate-put-numbers-4
+slice-aggregate-put-numbers-4 c = search needs
+
+put-numbers-requires-2 : tie.Need-put-numbers-requires-2
+put-numbers-requires-2 c κs = search needs
 
 slice-aggregate-put-refused : tie.Need-slice-aggregate-put-refused
 slice-aggregate-put-refused c = search needs
@@ -69,40 +54,34 @@ same-length c = search needs
 
 returns : tie.Need-returns
 returns c =
-    let other = c .before .before .before .before .before .before in
+    let second = c .before .before .before .before .before .before .before in
+    let first = second .before .before .before .before in
+    let other = first .before .before .before .before .before in
     let cut = other .before in
-    let shown = cut .before in
-    let valued = shown .before in
-    let coded = valued .before in
-    let s = coded .before .before .before .args in
+    let count = cut .before in
+    let shown = count .before in
+    let s = shown .before .before .before .args in
     let k = s .beside in
-    let held = valued .values-of .ensures in
-    c .before .before .put-refused .ensures
-    ∙ ap (put (text (s .at) (s .out .now)))
-    (rw (held .first, held .second, coded .number .ensures, held .count, shown .up-to .ensures .0, cut .flag .ensures, other .flag2 .ensures)
-    (rw (take-min 100 (s .line .now))
-    (refusal-said (s .number) (s .refusal) (record { sender = k .sender; other = k .other; text = s .line .now; cut = k .cut }))))
+    λ (refusal : Refusal) (h : Holds refusal (s .refused)).
+    refused-put (s .refused .number) (record { sender = k .sender; other = k .other; text = s .line .now; cut = k .cut }) (text (s .at) (s .out .now))
+    (count .count-of .ensures) (shown .up-to .ensures .0) (cut .flag .ensures) (other .flag2 .ensures) (first .put-numbers .ensures)
+    (second .put-numbers2 .ensures) (c .before .before .put-refused .ensures) refusal (h .its) (h .first) (h .second)
 
 pub put-refused-spec : {M : Type 1} → statement M
 put-refused-spec =
     tie.close
     (tie.spec
-    number-requires
-    values-of-requires
     up-to-requires
-    array-write-numbers
-    array-write-numbers-2
-    array-write-numbers-3
-    cast-numbers
-    array-write-numbers-4
-    array-write-numbers-5
-    array-write-numbers-6
+    count-of-requires
     flag-requires
-    array-write-numbers-7
-    array-write-numbers-8
-    array-write-numbers-9
     flag-requires-2
-    array-write-numbers-10
+    cast-t14
+    slice-aggregate-put-numbers
+    slice-aggregate-put-numbers-2
+    put-numbers-requires
+    slice-aggregate-put-numbers-3
+    slice-aggregate-put-numbers-4
+    put-numbers-requires-2
     slice-aggregate-put-refused
     slice-aggregate-put-refused-2
     put-refused-requires

@@ -1,5 +1,5 @@
 -- `bump` meets its contract: a place beyond the end is left out. Assumes nothing.
-use mathlib.Core.Path.{sym, ap}
+use mathlib.Core.Path.{sym}
 use lib.Seq.{set-out}
 use Rattle.summary.specs.Tally.{bumped}
 use borrow.Author.Needs.{needs}

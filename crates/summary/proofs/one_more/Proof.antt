@@ -1,6 +1,5 @@
 -- `one_more` meets its contract. Assumes nothing.
 use borrow.Author.Tests.{lt-ltb, le-ltb}
-use Rattle.summary.specs.Tally.{oneMore}
 use borrow.Author.Needs.{needs}
 use Rattle.summary.proofs.one_more.Statement.{statement}
 use Rattle.summary.proofs.one_more.Tie as tie

@@ -1,9 +1,9 @@
--- `json::put_number` meets its contract. Assumes nothing.
+-- `summary::put_number` meets its contract. Assumes nothing.
 use Rattle.text_out.specs.Text.{ascii}
 use Rattle.text_out.proofs.Laws.{put-then}
 use borrow.Author.Needs.{needs}
-use Rattle.json.proofs.put_number.Statement.{statement}
-use Rattle.json.proofs.put_number.Tie as tie
+use Rattle.summary.proofs.put_number.Statement.{statement}
+use Rattle.summary.proofs.put_number.Tie as tie
 
 slice-aggregate-put-bytes : tie.Need-slice-aggregate-put-bytes
 slice-aggregate-put-bytes c = search needs

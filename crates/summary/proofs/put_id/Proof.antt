@@ -1,9 +1,9 @@
--- `json::put_id` meets its contract. Assumes nothing.
+-- `summary::put_id` meets its contract. Assumes nothing.
 use mathlib.Core.Path.{sym}
 use Rattle.text_out.proofs.Laws.{put-nothing}
 use borrow.Author.Needs.{needs}
-use Rattle.json.proofs.put_id.Statement.{statement}
-use Rattle.json.proofs.put_id.Tie as tie
+use Rattle.summary.proofs.put_id.Statement.{statement}
+use Rattle.summary.proofs.put_id.Tie as tie
 
 enum-told : tie.Need-enum-told
 enum-told c = search needs

@@ -1,0 +1,49 @@
+-- `trace::answer_next` hands its buffers back as long as they were. Assumes nothing.
+use borrow.Author.Needs.{needs}
+use Rattle.trace.proofs.answer_next.Statement.{statement}
+use Rattle.trace.proofs.answer_next.Tie as tie
+
+turn-requires : tie.Need-turn-requires
+turn-requires c κs = search needs
+
+taken-requires : tie.Need-taken-requires
+taken-requires c κs = search needs
+
+counted-requires : tie.Need-counted-requires
+counted-requires c κs = search needs
+
+slice-aggregate-go-on : tie.Need-slice-aggregate-go-on
+slice-aggregate-go-on c = search needs
+
+go-on-requires : tie.Need-go-on-requires
+go-on-requires c κs = search needs
+
+after-requires : tie.Need-after-requires
+after-requires c κs = search needs
+
+same-length : tie.Need-same-length
+same-length c = search needs
+
+same-length-2 : tie.Need-same-length-2
+same-length-2 c = c .before .before .before .before .before .before .before .before .before .before .before .before .before .line .given
+
+same-length-3 : tie.Need-same-length-3
+same-length-3 c = c .before .before .before .before .before .before .before .before .before .before .before .out .given
+
+returns : tie.Need-returns
+returns c = search needs
+
+pub answer-next-spec : {M : Type 1} → statement M
+answer-next-spec =
+    tie.close
+    (tie.spec
+    turn-requires
+    taken-requires
+    counted-requires
+    slice-aggregate-go-on
+    go-on-requires
+    after-requires
+    same-length
+    same-length-2
+    same-length-3
+    returns)
