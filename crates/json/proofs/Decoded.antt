@@ -20,7 +20,7 @@ use Rattle.navigation.specs.declared.ManeuverIndicator.{ManeuverIndicator}
 use Rattle.position_report.specs.Table.{positionTable}
 use Rattle.position_report.specs.Report.{reportWith, reportOf}
 use Rattle.static_data_report.specs.Table as static
-use Rattle.static_data_report.specs.StaticData.{tooShort, noText, noTexts, nameOf, partBTextsOf, staticDataOf}
+use Rattle.static_data_report.specs.StaticData.{tooShort, noText, noTexts, nameOf, partBTextsOf, reportOf as staticOf, readBy as readStatic, staticDataOf}
 use Rattle.static_data_report.specs.Sound.{ReportSound}
 use Rattle.static_data_report.specs.declared.Reported.{Reported}
 use Rattle.static_data_report.specs.declared.StaticData.{StaticData}
@@ -32,7 +32,7 @@ use Rattle.interrogation.specs.Interrogation.{noMessage, padded, dropped, remai
 use Rattle.interrogation.specs.Interrogation.{headIn, stationIn, tellsOf, readBy, interrogatedOf}
 use Rattle.interrogation.specs.declared.Message.{Message}
 use Rattle.interrogation.specs.declared.Interrogated.{Interrogated}
-use Rattle.messages.specs.Messages.{endsPosition, positionIn, staticIn, askedIn, messageBy}
+use Rattle.messages.specs.Messages.{noMessage as nothing, endsPosition, positionIn, staticIn, askedIn, messageBy}
 use Rattle.json.proofs.Sound.{TurnSound, ManoeuvreSound, PositionSound, TextSound, TextsSound, Few, no-one, only, two, StationSound, Sound}
 
 -- what holds of both holds of the one that is picked

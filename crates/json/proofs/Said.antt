@@ -41,7 +41,7 @@ use Rattle.face_values.specs.Quoted.{quotedIn}
 use Rattle.face_rows.specs.Rows.{Row, always, is, number, signed, tenths, degrees, quoted, letter, float, textAt, printed}
 use Rattle.layout_numbers.specs.Places as at
 use Rattle.face_members.specs.Members as face
-use Rattle.face_json.specs.Tables.{openedTable, headTable, positionTable, askedTable}
+use Rattle.face_json.specs.Tables.{openedTable, headTable, positionTable, craftMembers as craftRows, askedTable}
 use Rattle.face_json.specs.Line.{tableOf, messageLine}
 use Rattle.json.specs.Laid.{lineFor}
 use Rattle.json.specs.Object.{member, spelled, opened, head, positionObject, partNumber, craftMembers}

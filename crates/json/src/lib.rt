@@ -138,6 +138,7 @@ fn tell(
 {
     let mut numbers = [0u64; 54];
     let mut texts = [0u8; 80];
+    // who sent a line that is not decoded is found with the record as it was before the line
     let found = record_bytes::load(state);
     let code = read(state, line, number, &mut numbers, &mut texts);
     let sender = layout_answer::sender::sender_of(code, found, line);
