@@ -15,8 +15,8 @@ struct Run {
     way: Way,
 }
 
-// The next line, answered; between two lines what was told is written and more is read.
-fn answer_next(
+// One line more, answered: the next one, or the last one of an input. Between two lines what was told is written and more is read.
+fn answer_one(
     s: Run,
     show: Show,
     state: &mut [u8],
@@ -27,11 +27,32 @@ fn answer_next(
 ) -> Run {
     let source = s.source;
     let kept = s.kept;
-    let t = decoding::turn(source.input, kept, show, state, block, line, out, tally);
+    let way = s.way;
+    let ended = inputs::is_last(way);
+    let t = decoding::turn(
+        source.input,
+        ended,
+        kept,
+        show,
+        state,
+        block,
+        line,
+        out,
+        tally,
+    );
     let told = t.kept;
     let next = t.next;
     let rest = inputs::taken(source, t.input);
-    let gone = inputs::go_on(&PROGRAM, told.number, rest, next, told.used, block, out);
+    let gone = inputs::go_on(
+        &PROGRAM,
+        told.number,
+        rest,
+        ended,
+        next,
+        told.used,
+        block,
+        out,
+    );
     after(gone, told)
 }
 
@@ -45,43 +66,6 @@ fn after(gone: Gone, told: Kept) -> Run {
         source: source,
         kept: kept,
         way: way,
-    }
-}
-
-// At the end of an input what is held is its last line; the output buffer was written. Then comes the next input, if there is one.
-fn answer_last(
-    s: Run,
-    show: Show,
-    state: &mut [u8],
-    line: &[u8],
-    out: &mut [u8],
-    tally: &mut [u64],
-) -> Run {
-    let source = s.source;
-    let kept = s.kept;
-    let t = decoding::last_turn(source.input, kept, show, state, line, out, tally);
-    let told = t.kept;
-    let gone = inputs::next_input(&PROGRAM, told.number, source, told.used);
-    after(gone, told)
-}
-
-// One line more: the next one, or the last one of an input.
-fn answer_one(
-    s: Run,
-    show: Show,
-    state: &mut [u8],
-    block: &mut [u8],
-    line: &mut [u8],
-    out: &mut [u8],
-    tally: &mut [u64],
-) -> Run {
-    let way = s.way;
-    match way {
-        Way::On => answer_next(s, show, state, block, line, out, tally),
-        Way::Last => answer_last(s, show, state, line, out, tally),
-        Way::Ended => s,
-        Way::Stopped => s,
-        Way::Failed => s,
     }
 }
 

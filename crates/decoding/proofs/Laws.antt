@@ -1,17 +1,17 @@
 -- A turn from what its calls give back. Assumes nothing.
 use Prim.Native.Nat.{ℕ}
 use mathlib.Core.Path.{_≡_, ap, _∙_}
-use mathlib.Core.Bool.{true}
+use mathlib.Core.Bool.{Bool, true}
 use mathlib.Core.List.{List}
 use lib.ListN.{take}
 use Rattle.stream.specs.declared.Input.{Input}
 use Rattle.stream.specs.declared.Next.{Next}
 use Rattle.stream.specs.declared.Taken.{Taken}
-use Rattle.stream.specs.Next.{takenWith, inBlock, atEnd}
+use Rattle.stream.specs.Next.{takenWith, comesOf}
 use Rattle.json.specs.declared.Kept.{Kept}
 use Rattle.json.specs.declared.Show.{Show}
 use Rattle.json.specs.Answer.{Left, leftWith, leftOf, leftLong}
-use Rattle.decoding.specs.Turn.{Answered, answeredIn, following, answeredOf, turnBy, turnIn, turnOf, lastBy, lastIn, lastOf}
+use Rattle.decoding.specs.Turn.{Answered, answeredIn, following, answeredOf, turnBy, turnIn, turnOf}
 
 module _ (show : Show) (k r : Kept) (state line out tally left after counted : List ℕ) where
   -- a number and what is left of it
@@ -33,17 +33,10 @@ module _ (show : Show) (k r : Kept) (state line out tally left after counted : L
   long-told is e f = rw is (told (λ (m : ℕ). leftLong show state m line (k .used) out tally) e f)
 
 -- what was taken out of the block, and what it is answered with
-pub turned : (show : Show) (input : Input) (k : Kept) (state block buf out tally : List ℕ) (t : Taken) (line : List ℕ) (r : Kept) (left after counted : List ℕ)
-    → takenWith t line ≡ inBlock 1024 true input block buf → answeredIn r left after counted ≡ answeredOf show k (t .next) state line out tally
-    → turnIn (record { input = t .input; kept = r; next = t .next }) left line after counted ≡ turnOf show input k state block buf out tally
+pub turned : (show : Show) (input : Input) (ended : Bool) (k : Kept) (state block buf out tally : List ℕ) (t : Taken) (line : List ℕ) (r : Kept)
+    (left after counted : List ℕ)
+    → takenWith t line ≡ comesOf ended 1024 true input block buf → answeredIn r left after counted ≡ answeredOf show k (t .next) state line out tally
+    → turnIn (record { input = t .input; kept = r; next = t .next }) left line after counted ≡ turnOf show input ended k state block buf out tally
 unfolding turnOf
-turned show input k state block buf out tally t line r left after counted e f =
+turned show input ended k state block buf out tally t line r left after counted e f =
     ap (λ (a : Answered). record { input = t .input; next = t .next; answered = a; line = line }) f ∙ ap (turnBy show k state out tally) e
-
--- the same at the end of the input
-pub last-turned : (show : Show) (input : Input) (k : Kept) (state line out tally : List ℕ) (t : Taken) (r : Kept) (left after counted : List ℕ)
-    → t ≡ atEnd 1024 true input line → answeredIn r left after counted ≡ answeredOf show k (t .next) state line out tally
-    → lastIn (record { input = t .input; kept = r; next = t .next }) left after counted ≡ lastOf show input k state line out tally
-unfolding lastOf
-last-turned show input k state line out tally t r left after counted e f =
-    ap (λ (a : Answered). record { input = t .input; next = t .next; answered = a }) f ∙ ap (lastBy show k state line out tally) e

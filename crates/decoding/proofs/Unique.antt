@@ -4,7 +4,7 @@ use mathlib.Core.List.{List}
 use Prim.Native.Nat.{ℕ}
 use Rattle.json.specs.declared.Kept.{Kept}
 use Rattle.json.proofs.Unique.{same-kept}
-use Rattle.decoding.specs.Turn.{Answered, answeredIn, Turns, turnIn, Lasts, lastIn}
+use Rattle.decoding.specs.Turn.{Answered, answeredIn, Turns, turnIn}
 use Rattle.decoding.specs.declared.Turned.{Turned}
 
 -- what is kept, the record's bytes, the output and the counts
@@ -12,20 +12,10 @@ pub same-answered : (j k : Kept) (r s o p t u : List ℕ) → answeredIn j r o t
 same-answered j k r s o p t u e = same-kept j k r s o p t u (ap (λ (a : Answered). a .number) e) (ap (λ (a : Answered). a .left) e)
 
 -- what a turn gives back, from what it tells
-abbrev turnedBy : Lasts → Turned
+abbrev turnedBy : Turns → Turned
 turnedBy z = record { input = z .input; kept = record { number = z .answered .number; used = z .answered .left .out .at }; next = z .next }
-
--- at the end of the input, where the line's buffer is not lent to be changed
-pub same-last : (a b : Turned) (r s o p t u : List ℕ) → lastIn a r o t ≡ lastIn b s p u → (a ≡ b) × (r ≡ s) × (o ≡ p) × (t ≡ u)
-same-last a b r s o p t u e =
-    let x = same-answered (a .kept) (b .kept) r s o p t u (ap (λ (z : Lasts). z .answered) e) in
-    (ap turnedBy e, x .1, x .2, x .3)
-
--- a turn but for the line's buffer
-abbrev unlined : Turns → Lasts
-unlined t = record { input = t .input; next = t .next; answered = t .answered }
 
 pub same-turned : (a b : Turned) (r s l m o p t u : List ℕ) → turnIn a r l o t ≡ turnIn b s m p u → (a ≡ b) × (r ≡ s) × (l ≡ m) × (o ≡ p) × (t ≡ u)
 same-turned a b r s l m o p t u e =
-    let x = same-last a b r s o p t u (ap unlined e) in
-    (x .0, x .1, ap (λ (z : Turns). z .line) e, x .2, x .3)
+    let x = same-answered (a .kept) (b .kept) r s o p t u (ap (λ (z : Turns). z .answered) e) in
+    (ap turnedBy e, x .1, ap (λ (z : Turns). z .line) e, x .2, x .3)

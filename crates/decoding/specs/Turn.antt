@@ -1,12 +1,11 @@
 -- The turn of program `decode`: the next line of the block, and what it is answered with.
 use Prim.Native.Nat.{ℕ, _+_, _-_, _^_, min}
-use mathlib.Core.Bool.{true}
+use mathlib.Core.Bool.{Bool, true}
 use mathlib.Core.List.{List}
 use lib.ListN.{take}
 use Rattle.stream.specs.declared.Input.{Input}
 use Rattle.stream.specs.declared.Next.{Next}
-use Rattle.stream.specs.declared.Taken.{Taken}
-use Rattle.stream.specs.Next.{Given, inBlock, atEnd}
+use Rattle.stream.specs.Next.{Given, comesOf}
 use Rattle.json.specs.declared.Kept.{Kept}
 use Rattle.json.specs.declared.Show.{Show}
 use Rattle.json.specs.Answer.{Left, leftWith, leftOf, leftLong}
@@ -52,21 +51,6 @@ turnBy show k state out tally g =
       line = g .line;
     }
 
--- the next line that ends in the block, of at most 1,024 bytes without the one CR that is removed
-unfoldable pub turnOf : Show → Input → Kept → List ℕ → List ℕ → List ℕ → List ℕ → List ℕ → Turns
-turnOf show input k state block line out tally = turnBy show k state out tally (inBlock 1024 true input block line)
-
--- at the end of the input
-pub record Lasts : Type 0 where
-  pub input : Input
-  pub next : Next
-  pub answered : Answered
-
-abbrev pub lastIn : Turned → List ℕ → List ℕ → List ℕ → Lasts
-lastIn t state out tally = record { input = t .input; next = t .next; answered = answeredIn (t .kept) state out tally }
-
-abbrev pub lastBy : Show → Kept → List ℕ → List ℕ → List ℕ → List ℕ → Taken → Lasts
-lastBy show k state line out tally t = record { input = t .input; next = t .next; answered = answeredOf show k (t .next) state line out tally }
-
-unfoldable pub lastOf : Show → Input → Kept → List ℕ → List ℕ → List ℕ → List ℕ → Lasts
-lastOf show input k state line out tally = lastBy show k state line out tally (atEnd 1024 true input line)
+-- the next line that ends in the block, or at the end of the input what is held, of at most 1,024 bytes without the one CR that is removed
+unfoldable pub turnOf : Show → Input → Bool → Kept → List ℕ → List ℕ → List ℕ → List ℕ → List ℕ → Turns
+turnOf show input ended k state block line out tally = turnBy show k state out tally (comesOf ended 1024 true input block line)

@@ -6,7 +6,7 @@ use json::Show;
 use stream::Input;
 use stream::Next;
 ghost use mathlib.Core.Path.{_≡_};
-ghost use Rattle.decoding.specs.Turn.{answeredOf, answeredIn, turnOf, turnIn, lastOf, lastIn};
+ghost use Rattle.decoding.specs.Turn.{answeredOf, answeredIn, turnOf, turnIn};
 ghost use Rattle.decoding.specs.Asked.{askedNothing, askedBy, optionBy, showOf};
 
 // Document 01: "line over 1,024 bytes" is refused. A CR before the LF is not one of them.
@@ -19,9 +19,10 @@ pub struct Turned {
     pub next: Next,
 }
 
-// The next line that ends in the block, answered.
+// The next line that ends in the block, or at the end of the input what is held, answered.
 pub fn turn(
     input: Input,
+    ended: bool,
     kept: Kept,
     show: Show,
     state: &mut [u8],
@@ -31,32 +32,9 @@ pub fn turn(
     tally: &mut [u64],
 ) -> Turned
     ensures { λ r. ⌜ turnIn r (now (state .exit)) (now (line .exit)) (now (out .exit)) (now (tally .exit))
-        ≡ turnOf show input kept (now (state .entry)) (now (block .entry)) (now (line .entry)) (now (out .entry)) (now (tally .entry)) ⌝ }
+        ≡ turnOf show input ended kept (now (state .entry)) (now (block .entry)) (now (line .entry)) (now (out .entry)) (now (tally .entry)) ⌝ }
 {
-    let t = stream::next_line(input, MOST, true, block, line);
-    let rest = t.input;
-    let next = t.next;
-    Turned {
-        input: rest,
-        kept: answer_next(kept, next, show, state, line, out, tally),
-        next: next,
-    }
-}
-
-// At the end of the input: bytes that are held are a last line, answered.
-pub fn last_turn(
-    input: Input,
-    kept: Kept,
-    show: Show,
-    state: &mut [u8],
-    line: &[u8],
-    out: &mut [u8],
-    tally: &mut [u64],
-) -> Turned
-    ensures { λ r. ⌜ lastIn r (now (state .exit)) (now (out .exit)) (now (tally .exit))
-        ≡ lastOf show input kept (now (state .entry)) (now (line .entry)) (now (out .entry)) (now (tally .entry)) ⌝ }
-{
-    let t = stream::last_line(input, MOST, true, line);
+    let t = stream::take_line(input, ended, MOST, true, block, line);
     let rest = t.input;
     let next = t.next;
     Turned {

@@ -24,6 +24,14 @@ isOn Way.Ended = false
 isOn Way.Stopped = false
 isOn Way.Failed = false
 
+-- at the end of an input, of which what is held is the last line
+abbrev pub isLast : Way → Bool
+isLast Way.On = false
+isLast Way.Last = true
+isLast Way.Ended = false
+isLast Way.Stopped = false
+isLast Way.Failed = false
+
 -- at an input's start; nothing of the output is written
 pub record Opens (used : ℕ) (r : Gone) : Type 0 where
   pub at-start : r .source .input ≡ atStart
@@ -60,11 +68,16 @@ pub record Reads (source : Source) (used : ℕ) (r : Gone) (block : List ℕ) : 
   pub came : Brought (r .way) (r .source .input .filled) used (r .used)
 
 -- by what came: a line, one that is too long, nothing, or too short a buffer for a line, which stops the run
-abbrev pub Goes : Source → Next → ℕ → Gone → List ℕ → Type 0
-Goes source (Next.Line n) used r block = Empties source used r
-Goes source Next.TooLong used r block = Empties source used r
-Goes source Next.Nothing used r block = Reads source used r block
-Goes source Next.Room used r block = r ≡ record { source = source; used = used; way = Way.Stopped }
+abbrev pub GoesOn : Source → Next → ℕ → Gone → List ℕ → Type 0
+GoesOn source (Next.Line n) used r block = Empties source used r
+GoesOn source Next.TooLong used r block = Empties source used r
+GoesOn source Next.Nothing used r block = Reads source used r block
+GoesOn source Next.Room used r block = r ≡ record { source = source; used = used; way = Way.Stopped }
+
+-- after the last line of an input comes the next input
+abbrev pub Goes : Bool → Source → Next → ℕ → Gone → List ℕ → Type 0
+Goes true source next used r block = Opens used r
+Goes false source next used r block = GoesOn source next used r block
 
 -- the status at the end: 1 where a call failed, also the last write; what was told before an input failed is still written
 abbrev pub Finishes : Way → ℕ → Type 0

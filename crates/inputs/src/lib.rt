@@ -12,7 +12,7 @@ ghost use Prim.Native.Nat.{_≤_};
 ghost use lib.ListN.{length};
 ghost use Rattle.text_out.specs.Text.{text, put};
 ghost use Rattle.inputs.specs.Words.{wordOf, isInput, unknownText, namedText};
-ghost use Rattle.inputs.specs.Goes.{isOn, sourceOf, Opens, Empties, Reads, Goes, Finishes};
+ghost use Rattle.inputs.specs.Goes.{isOn, isLast, sourceOf, Opens, Empties, Reads, Goes, Finishes};
 
 // What a word asks: the usage; that the launcher is told the status; an option of the program's own; or an input, a file by its name or `-`.
 pub enum Word {
@@ -145,7 +145,7 @@ pub fn first_input(program: &[u8], named: bool) -> Gone
 }
 
 // The next input, where a word names one more; the one before is closed. Its lines go on from `number`.
-pub fn next_input(program: &[u8], number: u64, source: Source, used: usize) -> Gone
+fn next_input(program: &[u8], number: u64, source: Source, used: usize) -> Gone
     ensures { λ r. ⌜ Opens used r ⌝ }
 {
     let place = source.place;
@@ -233,18 +233,23 @@ fn open(word: &[u8]) -> i32 {
     os::open_read(word)
 }
 
-// After a line the output buffer is written where it is nearly full; where no line came, it is written and the block is read anew.
+// After a line the output buffer is written where it is nearly full; where no line came, it is written and the block is read anew. After the last line of
+// an input comes the next input.
 pub fn go_on(
     program: &[u8],
     number: u64,
     source: Source,
+    ended: bool,
     next: Next,
     used: usize,
     block: &mut [u8],
     out: &[u8],
 ) -> Gone
-    ensures { λ r. ⌜ Goes source next used r (now (block .exit)) ⌝ }
+    ensures { λ r. ⌜ Goes ended source next used r (now (block .exit)) ⌝ }
 {
+    if ended {
+        return next_input(program, number, source, used);
+    }
     match next {
         Next::Line(_) => write_full(program, number, source, used, out),
         Next::TooLong => write_full(program, number, source, used, out),
@@ -379,6 +384,19 @@ pub fn is_on(way: Way) -> bool
 {
     match way {
         Way::On => true,
+        Way::Last => true,
+        Way::Ended => false,
+        Way::Stopped => false,
+        Way::Failed => false,
+    }
+}
+
+// Whether a run is at the end of an input, of which what is held is the last line.
+pub fn is_last(way: Way) -> bool
+    ensures { λ r. ⌜ r ≡ isLast way ⌝ }
+{
+    match way {
+        Way::On => false,
         Way::Last => true,
         Way::Ended => false,
         Way::Stopped => false,

@@ -3,6 +3,7 @@ use Prim.Native.Nat.{ℕ}
 use mathlib.Core.Bool.{Bool}
 use mathlib.Core.List.{List}
 use lib.ListN.{length, take}
+use Rattle.refusal.specs.Words.{pick}
 use Rattle.lines.specs.declared.Event.{Event}
 use Rattle.lines.specs.Collect.{collectOf, lastOf, nextOf}
 use Rattle.stream.specs.declared.Input.{Input}
@@ -39,3 +40,7 @@ inBlock m strip input block buf =
 -- at the end of the input: bytes that are held are a last line
 abbrev pub atEnd : ℕ → Bool → Input → List ℕ → Taken
 atEnd m strip input buf = record { input = atStart; next = nextBy (lastOf m strip (input .held) buf) }
+
+-- what comes of the input: at its end a last line, and the line's buffer stays; else the next line of the block
+abbrev pub comesOf : Bool → ℕ → Bool → Input → List ℕ → List ℕ → Given
+comesOf ended m strip input block buf = pick ended (takenWith (atEnd m strip input buf) buf) (inBlock m strip input block buf)

@@ -11,7 +11,7 @@ ghost use lib.Dec.{leb};
 ghost use lib.ListN.{length};
 ghost use Rattle.lines.specs.Collect.{nextOf};
 ghost use Rattle.text_out.specs.Text.{text, put};
-ghost use Rattle.stream.specs.Next.{atStart, nextBy, takenWith, inBlock, atEnd};
+ghost use Rattle.stream.specs.Next.{atStart, nextBy, takenWith, inBlock, atEnd, comesOf};
 ghost use Rattle.stream.specs.Moves.{Fills, Brings, failureText};
 
 // How far the input was taken: how many bytes are held of a line that is not yet ended, the place in the block to go on from, and how many bytes the
@@ -69,8 +69,26 @@ pub fn start() -> Input
     }
 }
 
-// The next line of at most `most` bytes that ends in the block, one CR before its LF removed or kept.
-pub fn next_line(input: Input, most: u16, strip: bool, block: &[u8], line: &mut [u8]) -> Taken
+// What comes of the input: at its end what is held, as a last line; else the next line that ends in the block. A line has at most `most` bytes, and one CR
+// before its LF is removed or kept.
+pub fn take_line(
+    input: Input,
+    ended: bool,
+    most: u16,
+    strip: bool,
+    block: &[u8],
+    line: &mut [u8],
+) -> Taken
+    ensures { λ r. ⌜ takenWith r (now (line .exit)) ≡ comesOf ended most strip input (now (block .entry)) (now (line .entry)) ⌝ }
+{
+    if ended {
+        return last_line(input, most, strip, line);
+    }
+    next_line(input, most, strip, block, line)
+}
+
+// The next line that ends in the block.
+fn next_line(input: Input, most: u16, strip: bool, block: &[u8], line: &mut [u8]) -> Taken
     ensures { λ r. ⌜ takenWith r (now (line .exit)) ≡ inBlock most strip input (now (block .entry)) (now (line .entry)) ⌝ }
 {
     let n = text_out::up_to(input.filled, block);
@@ -88,7 +106,7 @@ pub fn next_line(input: Input, most: u16, strip: bool, block: &[u8], line: &mut 
 }
 
 // At the end of the input: bytes that are held are a last line.
-pub fn last_line(input: Input, most: u16, strip: bool, line: &[u8]) -> Taken
+fn last_line(input: Input, most: u16, strip: bool, line: &[u8]) -> Taken
     ensures { λ r. ⌜ r ≡ atEnd most strip input (now (line .entry)) ⌝ }
 {
     let event = lines::last(Collector { len: input.held }, most, strip, line);

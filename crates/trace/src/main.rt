@@ -31,17 +31,19 @@ fn counted(number: u64, next: Next) -> u64 {
     }
 }
 
-// The next command, answered; between two commands what was said is written and more is read.
-fn answer_next(s: Run, block: &mut [u8], line: &mut [u8], out: &mut [u8]) -> Run {
+// One command more, answered: the next one, or the last one. Between two commands what was said is written and more is read.
+fn answer_one(s: Run, block: &mut [u8], line: &mut [u8], out: &mut [u8]) -> Run {
     let source = s.source;
     let answered = s.answered;
     let state = answered.state;
-    let t = trace_turn::turn(source.input, state, answered.at, block, line, out);
+    let way = s.way;
+    let ended = inputs::is_last(way);
+    let t = trace_turn::turn(source.input, ended, state, answered.at, block, line, out);
     let said = t.answered;
     let next = t.next;
     let rest = inputs::taken(source, t.input);
     let number = counted(s.number, next);
-    let gone = inputs::go_on(&PROGRAM, number, rest, next, said.at, block, out);
+    let gone = inputs::go_on(&PROGRAM, number, rest, ended, next, said.at, block, out);
     after(gone, number, said)
 }
 
@@ -59,29 +61,6 @@ fn after(gone: Gone, number: u64, said: Answered) -> Run {
         number: number,
         answered: answered,
         way: way,
-    }
-}
-
-// At the end of the input what is held is its last command; the output buffer was written.
-fn answer_last(s: Run, line: &[u8], out: &mut [u8]) -> Run {
-    let source = s.source;
-    let answered = s.answered;
-    let state = answered.state;
-    let t = trace_turn::last_turn(source.input, state, answered.at, line, out);
-    let said = t.answered;
-    let gone = inputs::next_input(&PROGRAM, s.number, source, said.at);
-    after(gone, s.number, said)
-}
-
-// One command more: the next one, or the last one.
-fn answer_one(s: Run, block: &mut [u8], line: &mut [u8], out: &mut [u8]) -> Run {
-    let way = s.way;
-    match way {
-        Way::On => answer_next(s, block, line, out),
-        Way::Last => answer_last(s, line, out),
-        Way::Ended => s,
-        Way::Stopped => s,
-        Way::Failed => s,
     }
 }
 

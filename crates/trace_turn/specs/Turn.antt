@@ -1,14 +1,13 @@
 -- The turn of program `trace`: the next command line of the block, and what it is answered with.
 use Prim.Native.Nat.{ℕ}
-use mathlib.Core.Bool.{false}
+use mathlib.Core.Bool.{Bool, false}
 use mathlib.Core.List.{List, [], _∷_, _++_}
 use lib.ListN.{take}
 use Rattle.text_out.specs.Text.{Text, text, put}
 use Rattle.reassembly.specs.declared.Record.{Record}
 use Rattle.stream.specs.declared.Input.{Input}
 use Rattle.stream.specs.declared.Next.{Next}
-use Rattle.stream.specs.declared.Taken.{Taken}
-use Rattle.stream.specs.Next.{Given, inBlock, atEnd}
+use Rattle.stream.specs.Next.{Given, comesOf}
 use Rattle.trace_commands.specs.declared.Answered.{Answered}
 use Rattle.trace_commands.specs.Asked.{bad}
 use Rattle.trace_protocol.specs.Said.{saidOf, keptOf}
@@ -56,21 +55,6 @@ turnBy state used out g =
       line = g .line;
     }
 
--- the next command line that ends in the block, of at most 8,192 bytes, a CR among them
-unfoldable pub turnOf : Input → Record → ℕ → List ℕ → List ℕ → List ℕ → Turns
-turnOf input state used block line out = turnBy state used out (inBlock 8192 false input block line)
-
--- at the end of the input
-pub record Lasts : Type 0 where
-  pub input : Input
-  pub next : Next
-  pub replied : Replied
-
-abbrev pub lastIn : Turned → List ℕ → Lasts
-lastIn t out = record { input = t .input; next = t .next; replied = repliedIn (t .answered) out }
-
-abbrev pub lastBy : Record → ℕ → List ℕ → List ℕ → Taken → Lasts
-lastBy state used line out t = record { input = t .input; next = t .next; replied = repliedOf state used (t .next) line out }
-
-unfoldable pub lastOf : Input → Record → ℕ → List ℕ → List ℕ → Lasts
-lastOf input state used line out = lastBy state used line out (atEnd 8192 false input line)
+-- the next command line that ends in the block, or at the end of the input what is held, of at most 8,192 bytes, a CR among them
+unfoldable pub turnOf : Input → Bool → Record → ℕ → List ℕ → List ℕ → List ℕ → Turns
+turnOf input ended state used block line out = turnBy state used out (comesOf ended 8192 false input block line)

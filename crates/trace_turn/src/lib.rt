@@ -6,7 +6,7 @@ use trace_commands::Answered;
 ghost use mathlib.Core.Path.{_≡_};
 ghost use lib.ListN.{take};
 ghost use Rattle.text_out.specs.Text.{text, put};
-ghost use Rattle.trace_turn.specs.Turn.{repliedIn, commandOf, longText, repliedOf, turnIn, turnOf, lastIn, lastOf};
+ghost use Rattle.trace_turn.specs.Turn.{repliedIn, commandOf, longText, repliedOf, turnIn, turnOf};
 
 // A command line has at most so many bytes. A CR before the LF is one of them: no command has one.
 const MOST: u16 = 8192;
@@ -18,9 +18,10 @@ pub struct Turned {
     pub answered: Answered,
 }
 
-// The next command line that ends in the block, answered.
+// The next command line that ends in the block, or at the end of the input what is held, answered.
 pub fn turn(
     input: Input,
+    ended: bool,
     state: Record,
     used: usize,
     block: &[u8],
@@ -28,23 +29,9 @@ pub fn turn(
     out: &mut [u8],
 ) -> Turned
     ensures { λ r. ⌜ turnIn r (now (line .exit)) (now (out .exit))
-        ≡ turnOf input state used (now (block .entry)) (now (line .entry)) (now (out .entry)) ⌝ }
+        ≡ turnOf input ended state used (now (block .entry)) (now (line .entry)) (now (out .entry)) ⌝ }
 {
-    let t = stream::next_line(input, MOST, false, block, line);
-    let rest = t.input;
-    let next = t.next;
-    Turned {
-        input: rest,
-        next: next,
-        answered: answer_next(state, next, line, out, used),
-    }
-}
-
-// At the end of the input: bytes that are held are a last command, answered.
-pub fn last_turn(input: Input, state: Record, used: usize, line: &[u8], out: &mut [u8]) -> Turned
-    ensures { λ r. ⌜ lastIn r (now (out .exit)) ≡ lastOf input state used (now (line .entry)) (now (out .entry)) ⌝ }
-{
-    let t = stream::last_line(input, MOST, false, line);
+    let t = stream::take_line(input, ended, MOST, false, block, line);
     let rest = t.input;
     let next = t.next;
     Turned {

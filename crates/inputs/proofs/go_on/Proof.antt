@@ -3,6 +3,12 @@ use borrow.Author.Needs.{needs}
 use Rattle.inputs.proofs.go_on.Statement.{statement}
 use Rattle.inputs.proofs.go_on.Tie as tie
 
+next-input-requires : tie.Need-next-input-requires
+next-input-requires c κs = search needs
+
+returns : tie.Need-returns
+returns c = rw (c .before .if1 .taken) (c .next-input .ensures)
+
 enum-told : tie.Need-enum-told
 enum-told c = search needs
 
@@ -27,25 +33,27 @@ enum-told-4 c = search needs
 say-room-requires : tie.Need-say-room-requires
 say-room-requires c κs = search needs
 
-returns : tie.Need-returns
-returns c = rw (c .before .enum-told .given .1) (c .write-full .ensures)
-
 returns-2 : tie.Need-returns-2
-returns-2 c = rw (c .before .enum-told2 .given .1) (c .write-full2 .ensures)
+returns-2 c = rw (c .before .before .before .if1 .left, c .before .enum-told .given .1) (c .write-full .ensures)
+
+returns-3 : tie.Need-returns-3
+returns-3 c = rw (c .before .before .before .if1 .left, c .before .enum-told2 .given .1) (c .write-full2 .ensures)
 
 same-length : tie.Need-same-length
 same-length c = search needs
 
-returns-3 : tie.Need-returns-3
-returns-3 c = rw (c .before .before .before .before .enum-told3 .given .1) (c .before .before .read-on .ensures)
-
 returns-4 : tie.Need-returns-4
-returns-4 c = rw (c .before .enum-told4 .given .1)
+returns-4 c = rw (c .before .before .before .before .before .before .if1 .left, c .before .before .before .before .enum-told3 .given .1) (c .before .before .read-on .ensures)
+
+returns-5 : tie.Need-returns-5
+returns-5 c = rw (c .before .before .before .if1 .left, c .before .enum-told4 .given .1)
 
 pub go-on-spec : {M : Type 1} → statement M
 go-on-spec =
     tie.close
     (tie.spec
+    next-input-requires
+    returns
     enum-told
     write-full-requires
     enum-told-2
@@ -54,8 +62,8 @@ go-on-spec =
     read-on-requires
     enum-told-4
     say-room-requires
-    returns
     returns-2
-    same-length
     returns-3
-    returns-4)
+    same-length
+    returns-4
+    returns-5)

@@ -4,8 +4,8 @@ use borrow.Author.Needs.{needs}
 use Rattle.trace_turn.proofs.turn.Statement.{statement}
 use Rattle.trace_turn.proofs.turn.Tie as tie
 
-next-line-requires : tie.Need-next-line-requires
-next-line-requires c κs = search needs
+take-line-requires : tie.Need-take-line-requires
+take-line-requires c κs = search needs
 
 answer-next-requires : tie.Need-answer-next-requires
 answer-next-requires c κs = search needs
@@ -20,8 +20,8 @@ returns : tie.Need-returns
 returns c =
     let said = c .before .before in
     let taken = said .before .before .before .before .before .before in
-    turned _ _ _ _ _ _ _ _ _ _ (taken .next-line .ensures) (said .answer-next .ensures)
+    turned _ _ _ _ _ _ _ _ _ _ _ (taken .take-line .ensures) (said .answer-next .ensures)
 
 pub turn-spec : {M : Type 1} → statement M
 turn-spec =
-    tie.close (tie.spec next-line-requires answer-next-requires same-length same-length-2 returns)
+    tie.close (tie.spec take-line-requires answer-next-requires same-length same-length-2 returns)
