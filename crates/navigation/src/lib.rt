@@ -1,5 +1,7 @@
 // Speed, course, position, turn, heading, accuracy and manoeuvre of a report (messages/navigation.rs).
 // Every function answers for every number that its type holds. A value is absent at document 01's number alone, and is else as sent.
+#![tactic(auto)]
+
 ghost use Rattle.std.specs.Prelude.{◌≡◌};
 ghost use Rattle.navigation.specs.Navigation.{tenths_of, speed_of, course_of, degrees_of, longitude_absent, latitude_absent, Coordinate, heading_of};
 ghost use Rattle.navigation.specs.Navigation.{turn_of, rate_of, direction_of, accuracy_of, accuracy_number, manoeuvre_of, manoeuvre_number};
