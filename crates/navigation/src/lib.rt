@@ -8,7 +8,7 @@ ghost use Rattle.navigation.specs.Navigation.{turn_of, rate_of, direction_of, ac
 
 // A reading of speed, course, longitude, latitude or rate of turn: absent, or the value. One enum serves them all, so that what is said
 // of an absent reading is said once.
-#[derive(Drop)]
+#[derive(Clone, Copy)]
 pub enum Reading {
     Absent,
     Value(f32),
@@ -72,7 +72,7 @@ pub fn parse_cog(raw: u16) -> Reading
 }
 
 // The true heading in whole degrees.
-#[derive(Drop)]
+#[derive(Clone, Copy)]
 pub enum Heading {
     Absent,
     Of(u16),
@@ -89,7 +89,7 @@ pub fn parse_heading(raw: u16) -> Heading
 }
 
 // Whether the position was augmented by a differential signal.
-#[derive(Drop)]
+#[derive(Clone, Copy)]
 pub enum Accuracy {
     Unaugmented,
     Dgps,
@@ -115,20 +115,20 @@ impl Accuracy {
 }
 
 // A turn as it was sent.
-#[derive(Drop)]
+#[derive(Clone, Copy)]
 pub struct RateOfTurn {
     pub raw: i8,
 }
 
 // The turn of a report.
-#[derive(Drop)]
+#[derive(Clone, Copy)]
 pub enum Turn {
     Absent,
     Of(RateOfTurn),
 }
 
 // The side to which a ship turns: absent where it does not.
-#[derive(Drop)]
+#[derive(Clone, Copy)]
 pub enum Direction {
     Absent,
     Port,
@@ -181,7 +181,7 @@ impl RateOfTurn {
 }
 
 // The manoeuvre indicator.
-#[derive(Drop)]
+#[derive(Clone, Copy)]
 pub enum ManeuverIndicator {
     Absent,
     NoSpecialManeuver,
