@@ -5,7 +5,7 @@ ghost use Rattle.decoding.specs.Turn.{answered_of, answered_in, turn_of, turn_in
 ghost use Rattle.decoding.specs.Asked.{asked_nothing, asked_by, option_by, show_of};
 
 use inputs::Word;
-use json::{Kept, Show};
+use json_told::{Kept, Show};
 use stream::{Input, Next};
 
 // Document 01: "line over 1,024 bytes" is refused. A CR before the LF is not one of them.
@@ -58,8 +58,8 @@ fn answer_next(
         ≡ answered_of show s next state.old line.now out.old tally.old }
 {
     match next {
-        Next::Line(n) => json::answer_line(s, n, line, show, state, out, tally),
-        Next::TooLong => json::answer_long(s, line, show, out, tally),
+        Next::Line(n) => json_told::answer_line(s, n, line, show, state, out, tally),
+        Next::TooLong => json_told::answer_long(s, line, show, out, tally),
         Next::Nothing => s,
         Next::Room => s,
     }

@@ -1,4 +1,6 @@
 // Numbers put into a lent slice from a place on, for callers that hold no enum: what does not fit is left out, as in crate `text_out`.
+#![tactic(auto)]
+
 ghost use Rattle.std.specs.Prelude.{◌≡◌, [], ◌∷◌, ◌+◌, ◌≤◌, length};
 ghost use Rattle.text_out.specs.Text.{text, put};
 

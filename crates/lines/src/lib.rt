@@ -1,4 +1,6 @@
 // Lines out of blocks of input that were cut anywhere. A collector is a number; the blocks and the line's buffer are lent.
+#![tactic(auto)]
+
 pub mod texts;
 
 ghost use Rattle.std.specs.Prelude.{◌≡◌, [], ◌∷◌, ◌++◌, ◌+◌, min, length, drop};

@@ -1,4 +1,6 @@
 // Fields of bits over a slice of bytes and a bit place, highest bit first, and six-bit text (messages/parsers.rs).
+#![tactic(auto)]
+
 pub mod little;
 
 ghost use Rattle.std.specs.Prelude.{◌≡◌, ◌+◌, ◌*◌, ◌^◌, ◌≤◌, ◌<◌, get_or};

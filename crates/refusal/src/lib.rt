@@ -1,4 +1,6 @@
 // Why a call is refused (errors.rs): the thirteen refusals of document 01, one enum for every layer.
+#![tactic(auto)]
+
 ghost use Rattle.std.specs.Prelude.{◌≡◌, [], ◌∷◌};
 ghost use Rattle.refusal.specs.Refusal.{row_of};
 ghost use Rattle.refusal.specs.Values.{Returned, count_by};

@@ -1,4 +1,6 @@
 // What a command of the comparing protocol asks: the words of its line, read as numbers; and what is said to a line that is no command.
+#![tactic(auto)]
+
 pub mod words;
 
 ghost use Rattle.std.specs.Prelude.{◌≡◌};

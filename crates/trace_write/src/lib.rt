@@ -1,4 +1,6 @@
 // The command `write` of the comparing protocol: the words of its line, read as what the writer is asked for, and what is said to it.
+#![tactic(auto)]
+
 ghost use Rattle.std.specs.Prelude.{◌≡◌};
 ghost use Rattle.text_out.specs.Text.{text, put};
 ghost use Rattle.trace_commands.specs.Line.{word_at};
@@ -48,7 +50,7 @@ pub fn say_write(line: &[u8], out: &mut [u8], at: usize) -> usize
     let Asked::Of(request, room) = ask_write(line) else {
         return trace_commands::say_bad(out, at);
     };
-    let mut payload = io::buffer();
+    let mut payload = [0u8; 4096];
     let Filled::Bytes(n) = trace_commands::words::bytes(line, 7, &mut payload) else {
         return trace_commands::say_bad(out, at);
     };
