@@ -17,7 +17,7 @@ pub enum Taken {
 }
 
 // A text of at most 20 characters; the places past its length are 0.
-#[derive(Drop)]
+#[derive(Clone, Copy)]
 pub struct Text {
     pub bytes: [u8; 20],
     pub len: usize,
