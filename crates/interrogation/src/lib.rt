@@ -1,4 +1,6 @@
 // Interrogation, type 15: which messages are asked of which stations (messages/interrogation.rs).
+#![tactic(auto)]
+
 ghost use Rattle.std.specs.Prelude.{◌≡◌, [], ◌∷◌, ◌≤◌};
 ghost use Rattle.interrogation.specs.Table.{table};
 ghost use Rattle.interrogation.specs.Interrogation.{no_message, no_station, no_interrogation, offset_of, dropped, kept, station_of};

@@ -1,4 +1,6 @@
 // Decoding alone: from unarmored bytes to one of the five message types (messages/mod.rs, `parse`).
+#![tactic(auto)]
+
 ghost use Rattle.std.specs.Prelude.{◌≡◌, false};
 ghost use Rattle.static_data_report.specs.StaticData.{static_data_of};
 ghost use Rattle.interrogation.specs.Interrogation.{interrogated_of};

@@ -1,4 +1,6 @@
 // Position reports, types 1 to 3 (messages/position_report.rs).
+#![tactic(auto)]
+
 ghost use Rattle.std.specs.Prelude.{◌≡◌};
 ghost use Rattle.parsers.specs.Table.{number_at, signed_at};
 ghost use Rattle.navigation.specs.Navigation.{turn_of};

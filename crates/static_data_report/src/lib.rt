@@ -1,4 +1,6 @@
 // The static data report, type 24 (messages/static_data_report.rs).
+#![tactic(auto)]
+
 ghost use Rattle.std.specs.Prelude.{◌≡◌};
 ghost use Rattle.static_data_report.specs.Table.{table};
 ghost use Rattle.static_data_report.specs.StaticData.{no_texts, name_of, part_b_of, part_b_texts_of, report_of, no_report, Reports};
