@@ -1,4 +1,5 @@
 // Unarmoring: the six bits of each payload character, joined and cut into bytes (messages/mod.rs, `unarmor`).
+#![tactic(auto)]
 ghost use Rattle.std.specs.Prelude.{◌≡◌, ◌++◌, ℕ, ◌+◌, ◌*◌, ◌/◌, ◌^◌, ◌≤◌, ◌<◌, ltb, leb, length, drop, replicate};
 ghost use Rattle.parsers.specs.Bits.{val, pack};
 ghost use Rattle.armour.specs.Armour.{meaning, the_true_type, first_bad, stream};
@@ -8,14 +9,14 @@ ghost use Rattle.armour.specs.Unarmor.{Unarmors};
 use refusal::Refusal;
 
 // How many bytes stand first in the output, or why there are none.
-#[derive(Drop)]
+#[derive(Clone, Copy)]
 pub enum Unarmored {
     Bytes(usize),
     Refused(Refusal),
 }
 
 // The type that a payload's first byte tells, absent where that byte is no armour.
-#[derive(Drop)]
+#[derive(Clone, Copy)]
 pub enum TrueType {
     Absent,
     Of(u8),

@@ -13,7 +13,7 @@ use lines::{Collector, Event};
 
 // How far the input was taken: how many bytes are held of a line that is not yet ended, the place in the block to go on from, and how many bytes the
 // block has.
-#[derive(Drop)]
+#[derive(Clone, Copy)]
 pub struct Input {
     pub held: usize,
     pub from: usize,
@@ -22,7 +22,7 @@ pub struct Input {
 
 // What comes next: a line, whose bytes stand first in the line's buffer; one that is too long; nothing until the block is read anew; or the line's
 // buffer is too short.
-#[derive(Drop)]
+#[derive(Clone, Copy)]
 pub enum Next {
     Line(usize),
     TooLong,
@@ -31,14 +31,14 @@ pub enum Next {
 }
 
 // What a call gives back.
-#[derive(Drop)]
+#[derive(Clone, Copy)]
 pub struct Taken {
     pub input: Input,
     pub next: Next,
 }
 
 // What reading on brought: more of the input, its end, or a call that failed, to read or to write.
-#[derive(Drop)]
+#[derive(Clone, Copy)]
 pub enum Came {
     More,
     End,
@@ -47,14 +47,14 @@ pub enum Came {
 }
 
 // What a call that reads on gives back.
-#[derive(Drop)]
+#[derive(Clone, Copy)]
 pub struct Filled {
     pub input: Input,
     pub came: Came,
 }
 
 // What a read brought: bytes of the block, from its start on; none, since the input has ended; or it failed.
-#[derive(Drop)]
+#[derive(Clone, Copy)]
 enum Got {
     Bytes(usize),
     Nothing,

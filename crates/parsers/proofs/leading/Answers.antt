@@ -26,11 +26,10 @@ pub loop-i-smaller : goal.loop-i-smaller
 loop-i-smaller c = omega arith
 
 pub loop-i-preserved : goal.loop-i-preserved
-loop-i-preserved c =
-    (
-      omega arith,
-      sym (start_gone c.args.bytes.now c.args.at c.loop-i.i c.args.count (omega arith) (sym c.ascii_at.ensures ∙ c.if-ascii_at-ne32.false)) ∙ c.loop-i.invariant.1,
-    )
+loop-i-preserved c = (
+  omega arith,
+  sym (start_gone c.args.bytes.now c.args.at c.loop-i.i c.args.count (omega arith) (sym c.ascii_at.ensures ∙ c.if-ascii_at-ne32.false)) ∙ c.loop-i.invariant.1,
+)
 
 pub returns : goal.returns
 returns c =
