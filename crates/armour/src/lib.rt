@@ -1,5 +1,6 @@
 // Unarmoring: the six bits of each payload character, joined and cut into bytes (messages/mod.rs, `unarmor`).
 #![tactic(auto)]
+
 ghost use Rattle.std.specs.Prelude.{◌≡◌, ◌++◌, ℕ, ◌+◌, ◌*◌, ◌/◌, ◌^◌, ◌≤◌, ◌<◌, ltb, leb, length, drop, replicate};
 ghost use Rattle.parsers.specs.Bits.{val, pack};
 ghost use Rattle.armour.specs.Armour.{meaning, the_true_type, first_bad, stream};
@@ -9,14 +10,14 @@ ghost use Rattle.armour.specs.Unarmor.{Unarmors};
 use refusal::Refusal;
 
 // How many bytes stand first in the output, or why there are none.
-#[derive(Clone, Copy)]
+#[derive(Drop)]
 pub enum Unarmored {
     Bytes(usize),
     Refused(Refusal),
 }
 
 // The type that a payload's first byte tells, absent where that byte is no armour.
-#[derive(Clone, Copy)]
+#[derive(Drop)]
 pub enum TrueType {
     Absent,
     Of(u8),
