@@ -6,7 +6,7 @@ use json_told::{Kept, Show};
 const PROGRAM: [u8; 6] = *b"decode";
 
 // Where lines come from, what is kept of them beside the record, and how far the run is.
-#[derive(Drop)]
+#[derive(Clone, Copy)]
 struct Run {
     source: Source,
     kept: Kept,

@@ -12,7 +12,7 @@ use stream::{Input, Next};
 const MOST: u16 = 1024;
 
 // What a turn gives back: how far the input was taken, what is kept of its lines beside the record, and what came.
-#[derive(Drop)]
+#[derive(Clone, Copy)]
 pub struct Turned {
     pub input: Input,
     pub kept: Kept,
@@ -67,7 +67,7 @@ fn answer_next(
 
 // What the words of the command line ask: the usage, that the launcher is told the status, no refusals, counts at the end; whether they name an input,
 // and the place of the first that is no option of ours, or 0.
-#[derive(Drop)]
+#[derive(Clone, Copy)]
 pub struct Asked {
     pub help: bool,
     pub status: bool,

@@ -23,14 +23,14 @@ const TYPE: usize = 17;
 const LINE: usize = 50;
 
 // What is kept from line to line beside the record: the number of lines so far, and how much of the output buffer is in use.
-#[derive(Drop)]
+#[derive(Clone, Copy)]
 pub struct Kept {
     pub number: u64,
     pub used: usize,
 }
 
 // What is written: an object for each message and each refused line, or the messages alone.
-#[derive(Drop)]
+#[derive(Clone, Copy)]
 pub enum Show {
     All,
     Quiet,
@@ -73,7 +73,7 @@ pub fn answer_long(s: Kept, line: &[u8], show: Show, out: &mut [u8], tally: &mut
 }
 
 // A refused line: its number in the input, the refusal's number, and its two values, each 0 where there is none.
-#[derive(Drop)]
+#[derive(Clone, Copy)]
 struct RefusedLine {
     pub number: u64,
     pub code: u32,
@@ -82,7 +82,7 @@ struct RefusedLine {
 }
 
 // What is told of a refused line beside its refusal and its text.
-#[derive(Drop)]
+#[derive(Clone, Copy)]
 struct Beside {
     pub sender: Optional,
     pub other: bool,

@@ -10,7 +10,7 @@ ghost use Rattle.parsers.specs.Scan.{Led, Trailed};
 ghost use Rattle.parsers.specs.Text.{ascii_of, char_at, chars_of, text_with, text_of};
 
 // A field's bits as a number, or that the field does not lie within the slice.
-#[derive(Drop)]
+#[derive(Clone, Copy)]
 pub enum Taken {
     Bits(u64),
     Past,

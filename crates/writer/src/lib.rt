@@ -27,7 +27,7 @@ pub struct Request {
 }
 
 // How many bytes stand first in the output, or why there are none.
-#[derive(Drop)]
+#[derive(Clone, Copy)]
 pub enum Written {
     Lines(usize),
     Refused(Refusal),

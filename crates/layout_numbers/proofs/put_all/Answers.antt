@@ -14,12 +14,11 @@ loop-i-init c =
     (rw z, (refl, omega arith))
 
 pub loop-i-preserved : goal.loop-i-preserved
-loop-i-preserved c =
-    (
-      bytes_step (text (c.args.at + c.loop-i.i) c.loop-i.out) _ _ c.args.s.now c.loop-i.i (omega arith)
-          (put_there (c.args.at + c.loop-i.i) _ c.loop-i.out _ (omega (arith, c.requires, c.loop-i.invariant.1.0)) (omega arith)) c.loop-i.invariant.0,
-      (length-set c.loop-i.out _ _ ∙ c.loop-i.invariant.1.0, omega arith),
-    )
+loop-i-preserved c = (
+  bytes_step (text (c.args.at + c.loop-i.i) c.loop-i.out) _ _ c.args.s.now c.loop-i.i (omega arith)
+      (put_there (c.args.at + c.loop-i.i) _ c.loop-i.out _ (omega (arith, c.requires, c.loop-i.invariant.1.0)) (omega arith)) c.loop-i.invariant.0,
+  (length-set c.loop-i.out _ _ ∙ c.loop-i.invariant.1.0, omega arith),
+)
 
 pub returns : goal.returns
 returns c = sym (bytes-end (text (c.args.at + c.loop-i.i) c.loop-i.out) c.args.s.now c.loop-i.i (omega arith)) ∙ c.loop-i.invariant.0
