@@ -1,12 +1,12 @@
 // AIS lines, as a receiver or a log gives them, to a JSON object for each complete message and each refused line.
 use decoding::Asked;
 use inputs::{Gone, Source, Way};
-use json::{Kept, Show};
+use json_told::{Kept, Show};
 
 const PROGRAM: [u8; 6] = *b"decode";
 
 // Where lines come from, what is kept of them beside the record, and how far the run is.
-#[derive(Drop)]
+#[derive(Clone, Copy)]
 struct Run {
     source: Source,
     kept: Kept,

@@ -10,7 +10,7 @@ use libc::{STDERR_FILENO, STDIN_FILENO, STDOUT_FILENO};
 use stream::{Came, Input, Next};
 
 // What a word asks: the usage; that the launcher is told the status; an option of the program's own; or an input, a file by its name or `-`.
-#[derive(Drop)]
+#[derive(Clone, Copy)]
 pub enum Word {
     Help,
     Status,
@@ -96,7 +96,7 @@ fn may_read(path: [u8; 4096]) -> bool
 
 // Where lines come from: how far the input was taken, its descriptor, and the place of the word that names it, which is 0 for standard input where no
 // word names an input.
-#[derive(Drop)]
+#[derive(Clone, Copy)]
 pub struct Source {
     pub input: Input,
     pub from: i32,
@@ -105,7 +105,7 @@ pub struct Source {
 
 // How far a run is: on its way; at the end of an input, of which what is held is the last line; at the end of all; stopped by an input that could not be
 // opened or read; or by a write that failed, after which nothing more is written. Whichever failed was said.
-#[derive(Drop)]
+#[derive(Clone, Copy)]
 pub enum Way {
     On,
     Last,
@@ -115,7 +115,7 @@ pub enum Way {
 }
 
 // What is given back between two lines: the source, how much of the output buffer is still in use, and how far the run is.
-#[derive(Drop)]
+#[derive(Clone, Copy)]
 pub struct Gone {
     pub source: Source,
     pub used: usize,

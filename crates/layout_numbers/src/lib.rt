@@ -5,7 +5,7 @@ ghost use Rattle.std.specs.Prelude.{◌≡◌, [], ◌∷◌, ◌+◌, ◌≤◌
 ghost use Rattle.text_out.specs.Text.{text, put};
 
 // What may be absent: 0 and 0, or 1 and its number.
-#[derive(Drop)]
+#[derive(Clone, Copy)]
 pub struct Optional {
     pub there: u64,
     pub value: u64,

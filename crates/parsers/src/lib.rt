@@ -10,14 +10,14 @@ ghost use Rattle.parsers.specs.Scan.{Led, Trailed};
 ghost use Rattle.parsers.specs.Text.{ascii_of, char_at, chars_of, text_with, text_of};
 
 // A field's bits as a number, or that the field does not lie within the slice.
-#[derive(Drop)]
+#[derive(Clone, Copy)]
 pub enum Taken {
     Bits(u64),
     Past,
 }
 
 // A text of at most 20 characters; the places past its length are 0.
-#[derive(Drop)]
+#[derive(Clone, Copy)]
 pub struct Text {
     pub bytes: [u8; 20],
     pub len: usize,

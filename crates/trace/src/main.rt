@@ -6,7 +6,7 @@ use trace_commands::Answered;
 const PROGRAM: [u8; 5] = *b"trace";
 
 // Where commands come from, how many were answered, the record with the place after what was said, and how far the run is.
-#[derive(Drop)]
+#[derive(Clone, Copy)]
 struct Run {
     source: Source,
     number: u64,
@@ -95,7 +95,7 @@ fn answer_input() -> u8 {
 }
 
 // What the words of the command line ask: the usage, that the launcher is told the status, and the place of the first that is neither, or 0.
-#[derive(Drop)]
+#[derive(Clone, Copy)]
 struct Asked {
     help: bool,
     status: bool,

@@ -12,32 +12,32 @@ use trace_commands::words::{Filled, Number};
 use writer::{Request, Written};
 
 // A request and ROOM of `write`.
-#[derive(Drop)]
+#[derive(Clone, Copy)]
 enum Asked {
     Of(Request, u64),
     Bad,
 }
 
 // What a word says, or that it is none of these.
-#[derive(Drop)]
+#[derive(Clone, Copy)]
 enum Talker {
     Of(TalkerId),
     Bad,
 }
 
-#[derive(Drop)]
+#[derive(Clone, Copy)]
 enum Report {
     Of(AisReportType),
     Bad,
 }
 
-#[derive(Drop)]
+#[derive(Clone, Copy)]
 enum Way {
     Of(Channel),
     Bad,
 }
 
-#[derive(Drop)]
+#[derive(Clone, Copy)]
 enum Wanted {
     Of(Request),
     Bad,
