@@ -11,14 +11,14 @@ use Rattle.stream.specs.declared.Filled.{Filled}
 abbrev pub Brings : Got → List ℕ → Type 0
 Brings (Got.Bytes n) block = (0 < n) × (n ≤ length block)
 Brings Got.Nothing block = Unit {0}
-Brings Got.Failed block = Unit {0}
+Brings (Got.Failed e) block = Unit {0}
 
 -- how many bytes a block has after reading on: some where more came, else none
 abbrev pub Some : Came → ℕ → Type 0
 Some Came.More n = 0 < n
 Some Came.End n = n ≡ 0
-Some Came.Unread n = n ≡ 0
-Some Came.Unwritten n = n ≡ 0
+Some (Came.Unread e) n = n ≡ 0
+Some (Came.Unwritten e) n = n ≡ 0
 
 -- reading on: what is held is kept, reading goes on at the block's start, and what was filled lies in the block
 pub record Fills (before : Input) (r : Filled) (block : List ℕ) : Type 0 where

@@ -1,15 +1,20 @@
 // Input line by line and output in large pieces, for every program that answers the lines it is given. What the system's calls do is assumed; what is
 // taken out of a block, what a read leaves as it was and what is said of a call that failed are promised.
+#![tactic(auto)]
+
 mod pause;
 
-ghost use Rattle.std.specs.Prelude.{◌≡◌, ◌≤◌, leb, length};
+ghost use Rattle.std.specs.Prelude.{◌≡◌, leb};
+ghost use Rattle.std.specs.Io.{WritesAtMost};
 ghost use Rattle.lines.specs.Collect.{next_of};
 ghost use Rattle.text_out.specs.Text.{text, put};
 ghost use Rattle.stream.specs.Next.{at_start, next_by, taken_with, in_block, at_end, comes_of};
 ghost use Rattle.stream.specs.Moves.{Fills, Brings, failure_text};
 
-use libc::STDERR_FILENO;
 use lines::{Collector, Event};
+use std::fmt::InlineText;
+use std::io::{Error, ErrorKind, Read, Result, Write};
+use std::rt::Clock;
 
 // How far the input was taken: how many bytes are held of a line that is not yet ended, the place in the block to go on from, and how many bytes the
 // block has.
@@ -37,13 +42,13 @@ pub struct Taken {
     pub next: Next,
 }
 
-// What reading on brought: more of the input, its end, or a call that failed, to read or to write.
+// What reading on brought: more of the input, its end, or a call that failed, to read or to write, with the system's reason.
 #[derive(Clone, Copy)]
 pub enum Came {
     More,
     End,
-    Unread,
-    Unwritten,
+    Unread(Error),
+    Unwritten(Error),
 }
 
 // What a call that reads on gives back.
@@ -53,12 +58,12 @@ pub struct Filled {
     pub came: Came,
 }
 
-// What a read brought: bytes of the block, from its start on; none, since the input has ended; or it failed.
+// What a read brought: bytes of the block, from its start on; none, since the input has ended; or it failed, with the system's reason.
 #[derive(Clone, Copy)]
 enum Got {
     Bytes(usize),
     Nothing,
-    Failed,
+    Failed(Error),
 }
 
 // Before anything is read.
@@ -101,7 +106,7 @@ fn next_line(input: Input, most: u16, strip: bool, block: &[u8], line: &mut [u8]
     Taken {
         input: Input {
             held: c.state.len,
-            from: next_from(event, n),
+            from: next_from(&event, n),
             filled: n,
         },
         next: next_by(event),
@@ -132,33 +137,34 @@ fn next_by(event: Event) -> Next
 }
 
 // The place to go on from after an event, in a block of so many bytes.
-fn next_from(event: Event, all: usize) -> usize
-    ensures { result ≡ next_of event all }
+fn next_from(event: &Event, all: usize) -> usize
+    ensures { result ≡ next_of event.now all }
 {
     match event {
-        Event::Line(_, next) => next,
-        Event::TooLong(next) => next,
+        Event::Line(_, next) => *next,
+        Event::TooLong(next) => *next,
         Event::Held => all,
         Event::Room => all,
     }
 }
 
 // Goes on where no line ends in what is left of the block. The first `used` bytes of the output buffer are written before anything is waited for, so
-// that whoever looks sees all that was told; then the block is read anew from the descriptor `from`.
-pub fn read_on(
+// that whoever looks sees all that was told; then the block is read anew from `from`.
+pub fn read_on<C: Clock, R: Read, W: Write>(
+    clock: &C,
     input: Input,
-    from: i32,
+    from: &mut R,
     block: &mut [u8],
-    to: i32,
+    to: &mut W,
     out: &[u8],
     used: usize,
 ) -> Filled
     ensures { Fills input result block.new }
 {
-    if !write_out(to, out, used) {
-        return stopped(input, Came::Unwritten);
+    if let Err(error) = write_out(clock, to, out, used) {
+        return stopped(input, Came::Unwritten(error));
     }
-    match read_some(from, block) {
+    match read_some(clock, from, block) {
         Got::Bytes(n) => Filled {
             input: Input {
                 held: input.held,
@@ -168,7 +174,7 @@ pub fn read_on(
             came: Came::More,
         },
         Got::Nothing => stopped(input, Came::End),
-        Got::Failed => stopped(input, Came::Unread),
+        Got::Failed(error) => stopped(input, Came::Unread(error)),
     }
 }
 
@@ -187,35 +193,37 @@ fn stopped(input: Input, came: Came) -> Filled
 }
 
 // Reads once, and again where a call was interrupted or would have had to wait.
-fn read_some(from: i32, block: &mut [u8]) -> Got
+fn read_some<C: Clock, R: Read>(clock: &C, from: &mut R, block: &mut [u8]) -> Got
     ensures { Brings result block.new }
 {
     let mut tries = u64::MAX;
     while tries > 0 {
-        let got = libc::read(from, block);
-        let n = io::count(got, block);
-        if n > 0 {
-            return Got::Bytes(n);
-        }
-        if got == 0 {
-            return Got::Nothing;
-        }
-        if !is_for_again() {
-            return Got::Failed;
+        match from.read(block) {
+            Ok(n) => {
+                if n > 0 {
+                    return Got::Bytes(n);
+                }
+                return Got::Nothing;
+            }
+            Err(error) => {
+                if !is_for_again(clock, error) {
+                    return Got::Failed(error);
+                }
+            }
         }
         tries -= 1;
     }
-    Got::Failed
+    Got::Failed(Error::from(ErrorKind::TimedOut))
 }
 
 // Whether the call that just failed is to be tried again: a signal interrupted it, or it would have had to wait, and a while has passed.
-fn is_for_again() -> bool {
-    let error = os::errno();
-    if error == libc::EAGAIN {
-        pause::pause();
+fn is_for_again(clock: &impl Clock, error: Error) -> bool {
+    let kind = error.kind();
+    if kind == ErrorKind::WouldBlock {
+        pause::pause(clock);
         return true;
     }
-    error == libc::EINTR
+    kind == ErrorKind::Interrupted
 }
 
 // Whether so much of an output buffer of 65,536 bytes is in use that it is written before more is put.
@@ -225,45 +233,54 @@ pub fn is_full(used: usize) -> bool
     49152 <= used
 }
 
-// Writes the first `used` bytes of the output buffer, and answers whether all of them were taken.
-pub fn write_out(to: i32, out: &[u8], used: usize) -> bool {
+// Writes the first `used` bytes of the output buffer, and answers why not all of them were taken where that is so.
+pub fn write_out<C: Clock, W: Write>(clock: &C, to: &mut W, out: &[u8], used: usize) -> Result<()> {
     let n = text_out::up_to(used, out);
-    write_all(to, &out[..n])
+    write_all(clock, to, &out[..n])?;
+    to.flush()
 }
 
 // Writes all of the bytes, again where a call was interrupted or would have had to wait, until one fails.
-fn write_all(to: i32, bytes: &[u8]) -> bool {
+fn write_all<C: Clock, W: Write>(clock: &C, to: &mut W, bytes: &[u8]) -> Result<()> {
     let mut done = 0;
     let mut tries = u64::MAX;
     while done < bytes.len() {
-        let put = write_some(to, &bytes[done..]);
-        if put == 0 {
-            if !is_for_again() {
-                return false;
-            }
-        }
         if tries == 0 {
-            return false;
+            return Err(Error::from(ErrorKind::TimedOut));
         }
         tries -= 1;
-        done += put;
+        match write_some(to, &bytes[done..]) {
+            Ok(0) => return Err(Error::from(ErrorKind::WriteZero)),
+            Ok(put) => done += put,
+            Err(error) => {
+                if !is_for_again(clock, error) {
+                    return Err(error);
+                }
+            }
+        }
     }
-    true
+    Ok(())
 }
 
-// Writes once, and answers how many bytes were taken; none where the call failed.
-fn write_some(to: i32, bytes: &[u8]) -> usize
-    ensures { result ≤ length bytes.now }
+// Writes once, and answers how many bytes were taken, or why the call failed.
+fn write_some<W: Write>(to: &mut W, bytes: &[u8]) -> Result<usize>
+    ensures { WritesAtMost result bytes.now }
 {
-    io::count(libc::write(to, bytes), bytes)
+    to.write(bytes)
 }
 
 // Says on standard error that a call failed: the program, after which line of the input, what it did and with what, and the system's reason.
-pub fn say_failure(program: &[u8], number: u64, doing: &[u8], name: &[u8]) {
-    let mut words = io::buffer();
+pub fn say_failure(
+    rt: &HostRuntime,
+    program: &[u8],
+    number: u64,
+    doing: &[u8],
+    name: &[u8],
+    error: Error,
+) {
+    let mut words = [0u8; 4096];
     let n = put_failure(&mut words, 0, program, number, doing, name);
-    let k = text_out::up_to(n, &words);
-    os::fail(&words[..k]);
+    fail(rt, &words, n, error);
 }
 
 // The words before the system's reason.
@@ -287,7 +304,25 @@ pub fn put_failure(
     text_out::put_bytes(out, f, name)
 }
 
+// Says on standard error what failed, the first `used` bytes of `words`, then a colon and the system's reason.
+pub fn fail(rt: &HostRuntime, words: &[u8], used: usize, error: Error) {
+    let told = InlineText::<256>::of(error);
+    let reason = reason_of(told.as_str()).as_bytes();
+    say(rt, words, used);
+    say(rt, b": ", 2);
+    say(rt, reason, reason.len());
+    say(rt, b"\n", 1);
+}
+
+// The system's reason alone, without the number that std puts after it.
+fn reason_of(told: &str) -> &str {
+    match told.split_once(" (os error ") {
+        Some((reason, _)) => reason,
+        None => told,
+    }
+}
+
 // Says the first `used` bytes of a buffer on standard error. Where that fails there is nobody left to tell.
-pub fn say(words: &[u8], used: usize) {
-    write_out(STDERR_FILENO, words, used);
+pub fn say(rt: &HostRuntime, words: &[u8], used: usize) {
+    let _ = write_out(rt, &mut rt.stderr(), words, used);
 }

@@ -1,0 +1,9 @@
+-- Writing ends: the count of tries falls, and no more is written than there is. Assumes nothing.
+use Rattle.std.proofs.Common.{length, ◌≤◌}
+use Rattle.stream.proofs.write_all.Given as goal
+
+abbrev pub invariant-loop-done : goal.invariant-loop-done
+invariant-loop-done g l = l.done ≤ length l.bytes
+
+abbrev pub decreases-loop-done : goal.decreases-loop-done
+decreases-loop-done g l = l.tries
