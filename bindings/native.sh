@@ -38,8 +38,8 @@ object() {
 archive() {
     local folder=$native
     if [ "$(uname -m)" = x86_64 ]; then
-        folder=$root/target/staticlib
-        is_built "$folder/lib$1.a" || (cd "$root" && rt staticlib "$1") >&2 || return 1
+        folder=$root/crates/$1/out
+        is_built "$folder/lib$1.a" || (cd "$root/crates/$1" && rt lib) >&2 || return 1
     else
         is_built "$folder/lib$1.a" || { object "$1" staticlib && rm -f "$folder/lib$1.a" && ar rcs "$folder/lib$1.a" "$folder/$1.o"; } >&2 || return 1
     fi
@@ -50,8 +50,8 @@ archive() {
 program() {
     local file=$native/$1
     if [ "$(uname -m)" = x86_64 ]; then
-        file=$root/target/bin/$1
-        is_built "$file" || (cd "$root" && rt check "$1") >&2 || return 1
+        file=$root/crates/$1/out/$1
+        is_built "$file" || (cd "$root/crates/$1" && rt run -- --help) >&2 </dev/null || return 1
     else
         is_built "$file" || { rm -f "$root/target/stamp/$1" && object "$1" check && cc -o "$file" "$file.o" "$root/bindings/native_os.c"; } >&2 || return 1
     fi

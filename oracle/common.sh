@@ -60,19 +60,13 @@ generate() { SAMPLE=${SAMPLE-$root/../shared/vectors/sample.aivdm} "$room/target
 
 # Builds our program where it is missing or older than a source. One that is built, but fails its stored run, is compared all the same.
 build_trace() {
-    trace_is_built || (cd "$root" && rt check trace) >&2 || trace_is_built || { say "trace is not built"; exit 2; }
+    trace_is_built || (cd "$root/crates/trace" && rt run -- --help) >&2 </dev/null || trace_is_built || { say "trace is not built"; exit 2; }
 }
 
 trace_is_built() {
-    local program=$root/target/bin/trace
+    local program=$root/crates/trace/out/trace
     [ -e "$program" ] && [ -z "$(find "$root/crates" -name '*.rt' -newer "$program" -print -quit)" ]
 }
 
-# Our program, as `rt` runs it: under the kit's loader and C library, and through the kit's emulator where the machine is not x86-64.
-trace() {
-    local kit tools emulator=()
-    kit=$(rt doc)
-    tools=${kit%/docs/*}/on/$(uname -m)/toolchain
-    [ ! -x "$tools/bin/qemu-x86_64" ] || emulator=("$tools/bin/qemu-x86_64")
-    "${emulator[@]}" "$tools/lib/ld-linux-x86-64.so.2" --library-path "$tools/lib" "$root/target/bin/trace"
-}
+# Our program.
+trace() { "$root/crates/trace/out/trace"; }

@@ -1,4 +1,6 @@
 // Unarmoring: the six bits of each payload character, joined and cut into bytes (messages/mod.rs, `unarmor`).
+#![tactic(auto)]
+
 ghost use Rattle.std.specs.Prelude.{◌≡◌, ◌++◌, ℕ, ◌+◌, ◌*◌, ◌/◌, ◌^◌, ◌≤◌, ◌<◌, ltb, leb, length, drop, replicate};
 ghost use Rattle.parsers.specs.Bits.{val, pack};
 ghost use Rattle.armour.specs.Armour.{meaning, the_true_type, first_bad, stream};

@@ -3,7 +3,7 @@
 
 use decoding::Asked;
 use inputs::{Gone, Source, Way};
-use json::{Kept, Show};
+use json_told::{Kept, Show};
 
 const PROGRAM: [u8; 6] = *b"decode";
 

@@ -17,14 +17,14 @@ use Rattle.answer.proofs.Unique.{outcome_by}
 use Rattle.record_bytes.specs.Bytes.{loaded_of}
 use Rattle.layout_message.specs.Message.{message_texts}
 use Rattle.face_json.proofs.Fits.{line_most, message-most, refused-most, turn_whole}
-use Rattle.json.specs.declared.Show.{Show}
-use Rattle.json.specs.Object.{About, refused_object}
-use Rattle.json.specs.Answer.{shown_by, about_of, about_long, said_of, read_over, left_of, left_long}
-use Rattle.json.proofs.Sound.{Sound}
-use Rattle.json.proofs.Said.{message-said}
-use Rattle.json.proofs.Refused.{refusal_said}
-use Rattle.json.proofs.Calls.{over_sound, texts_eighty}
-use Rattle.json.proofs.Lent.{over-told}
+use Rattle.json_told.specs.declared.Show.{Show}
+use Rattle.json_told.specs.Object.{About, refused_object}
+use Rattle.json_told.specs.Answer.{shown_by, about_of, about_long, said_of, read_over, left_of, left_long}
+use Rattle.json_told.proofs.Sound.{Sound}
+use Rattle.json_told.proofs.Said.{message-said}
+use Rattle.json_told.proofs.Refused.{refusal_said}
+use Rattle.json_told.proofs.Calls.{over_sound, texts_eighty}
+use Rattle.json_told.proofs.Lent.{over-told}
 
 -- a refused line
 refusal_most : (number : ℕ) (r : Refusal) (about : About) → length (refused_object number (row_of r).number (row_of r).values about) ≤ line_most

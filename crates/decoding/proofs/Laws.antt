@@ -8,9 +8,9 @@ use Rattle.stream.specs.declared.Input.{Input}
 use Rattle.stream.specs.declared.Next.{Next}
 use Rattle.stream.specs.declared.Taken.{Taken}
 use Rattle.stream.specs.Next.{taken_with, comes_of}
-use Rattle.json.specs.declared.Kept.{Kept}
-use Rattle.json.specs.declared.Show.{Show}
-use Rattle.json.specs.Answer.{Left, left_with, left_of, left_long}
+use Rattle.json_told.specs.declared.Kept.{Kept}
+use Rattle.json_told.specs.declared.Show.{Show}
+use Rattle.json_told.specs.Answer.{Left, left_with, left_of, left_long}
 use Rattle.decoding.specs.Turn.{Answered, answered_in, following, answered_of, turn_by, turn_in, turn_of}
 
 module _ (show : Show) (k r : Kept) (state line out tally left after counted : List ℕ) where

@@ -2,8 +2,8 @@
 use mathlib.Core.Path.{◌≡◌, ap}
 use mathlib.Core.List.{List}
 use Prim.Native.Nat.{ℕ}
-use Rattle.json.specs.declared.Kept.{Kept}
-use Rattle.json.proofs.Unique.{same_kept}
+use Rattle.json_told.specs.declared.Kept.{Kept}
+use Rattle.json_told.proofs.Unique.{same_kept}
 use Rattle.decoding.specs.Turn.{Answered, answered_in, Turns, turn_in}
 use Rattle.decoding.specs.declared.Turned.{Turned}
 

@@ -5,7 +5,7 @@ use Rattle.lines.specs.Same.{same_as}
 use Rattle.text_out.specs.Text.{ascii}
 use Rattle.inputs.specs.declared.Word.{Word}
 use Rattle.inputs.specs.Words.{word_of}
-use Rattle.json.specs.declared.Show.{Show}
+use Rattle.json_told.specs.declared.Show.{Show}
 use Rattle.decoding.specs.declared.Asked.{Asked}
 
 abbrev pub asks : Bool → Bool → Bool → Bool → Bool → ℕ → Asked

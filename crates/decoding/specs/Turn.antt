@@ -3,9 +3,9 @@ use Rattle.std.specs.Prelude.{ℕ, ◌+◌, ◌-◌, ◌^◌, min, Bool, true, L
 use Rattle.stream.specs.declared.Input.{Input}
 use Rattle.stream.specs.declared.Next.{Next}
 use Rattle.stream.specs.Next.{Given, comes_of}
-use Rattle.json.specs.declared.Kept.{Kept}
-use Rattle.json.specs.declared.Show.{Show}
-use Rattle.json.specs.Answer.{Left, left_with, left_of, left_long}
+use Rattle.json_told.specs.declared.Kept.{Kept}
+use Rattle.json_told.specs.declared.Show.{Show}
+use Rattle.json_told.specs.Answer.{Left, left_with, left_of, left_long}
 use Rattle.decoding.specs.declared.Turned.{Turned}
 
 -- the number of lines so far, and the record, the output and the counts after them

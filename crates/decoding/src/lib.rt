@@ -5,14 +5,14 @@ ghost use Rattle.decoding.specs.Turn.{answered_of, answered_in, turn_of, turn_in
 ghost use Rattle.decoding.specs.Asked.{asked_nothing, asked_by, option_by, show_of};
 
 use inputs::Word;
-use json::{Kept, Show};
+use json_told::{Kept, Show};
 use stream::{Input, Next};
 
 // Document 01: "line over 1,024 bytes" is refused. A CR before the LF is not one of them.
 const MOST: u16 = 1024;
 
 // What a turn gives back: how far the input was taken, what is kept of its lines beside the record, and what came.
-#[derive(Drop)]
+#[derive(Clone, Copy)]
 pub struct Turned {
     pub input: Input,
     pub kept: Kept,
@@ -58,8 +58,8 @@ fn answer_next(
         ≡ answered_of show s next state.old line.now out.old tally.old }
 {
     match next {
-        Next::Line(n) => json::answer_line(s, n, line, show, state, out, tally),
-        Next::TooLong => json::answer_long(s, line, show, out, tally),
+        Next::Line(n) => json_told::answer_line(s, n, line, show, state, out, tally),
+        Next::TooLong => json_told::answer_long(s, line, show, out, tally),
         Next::Nothing => s,
         Next::Room => s,
     }
@@ -67,7 +67,7 @@ fn answer_next(
 
 // What the words of the command line ask: the usage, that the launcher is told the status, no refusals, counts at the end; whether they name an input,
 // and the place of the first that is no option of ours, or 0.
-#[derive(Drop)]
+#[derive(Clone, Copy)]
 pub struct Asked {
     pub help: bool,
     pub status: bool,

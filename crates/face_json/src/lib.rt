@@ -1,4 +1,6 @@
 // A complete message, and a refused line, as a line of JSON: tables over its layout, numbers and bytes of text.
+#![tactic(auto)]
+
 ghost use Rattle.std.specs.Prelude.{◌≡◌, get_or};
 ghost use Rattle.text_out.specs.Text.{text, put};
 ghost use Rattle.face_rows.specs.Rows.{printed};

@@ -1,5 +1,7 @@
 // Values of a member of a JSON object, over the numbers of an answer's layout: a value or null, a flag, a status in words. A value's form is a row's, as
 // crate `face_rows` reads it.
+#![tactic(auto)]
+
 ghost use Rattle.std.specs.Prelude.{◌≡◌, eqb, get_or};
 ghost use Rattle.refusal.specs.Words.{pick};
 ghost use Rattle.text_out.specs.Text.{text, put, ascii};

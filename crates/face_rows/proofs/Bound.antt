@@ -3,13 +3,13 @@ use Prim.Native.Nat.{ℕ, zero, suc, ◌+◌, ◌*◌, ◌/◌, ◌%◌, ◌^◌
 use native.Mathlib.Omega.{arith}
 use native.Mathlib.Nat.{le_trans}
 use mathlib.Core.Bool.{Bool, true, false, ◌||◌}
-use mathlib.Core.Path.{◌≡◌, ap}
+use mathlib.Core.Path.{ap}
 use mathlib.Core.List.{List, [], ◌∷◌, ◌++◌}
 use lib.Dec.{eqb, ltb}
-use lib.ListN.{length, get_or, take, drop, length-append, length-take, length-drop}
+use lib.ListN.{length, get_or, drop, length-append, length-take, length-drop}
 use Rattle.refusal.specs.Words.{pick, within}
 use Rattle.text_out.specs.Text.{ascii}
-use Rattle.text_out.specs.Digits.{glyph, decimal_of, hex_of, word_of}
+use Rattle.text_out.specs.Digits.{decimal_of, hex_of, word_of}
 use Rattle.text_out.proofs.Decimals.{one-digit}
 use Rattle.text_out.proofs.Lengths.{decimal-most, hex-length}
 use Rattle.face_values.specs.Signed.{sign_in, size_in, signed_in}

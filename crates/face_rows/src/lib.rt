@@ -1,6 +1,8 @@
 // A face of an answer: rows of a table, each a word and a value of the answer's layout, put one after the other.
 // A row is a number, in hex S_T_VV_PP_K_QQ_RR_FFF_LL: the test T of number PP against VV, and how many rows S after this one depend on it too,
 // the value's form K and its places QQ and RR, and the word's start FFF and length LL among the table's words.
+#![tactic(auto)]
+
 ghost use Rattle.std.specs.Prelude.{◌≡◌, get_or, take, drop};
 ghost use Rattle.text_out.specs.Text.{text, put};
 ghost use Rattle.face_rows.specs.Rows.{holds, value_text, row_text, printed};

@@ -1,14 +1,14 @@
 -- A rate as a count of 10 ^ -9: where it is 0, and how it is worked out in 64 bits. Assumes nothing.
-use Prim.Native.Nat.{ℕ, zero, ◌+◌, ◌-◌, ◌*◌, ◌/◌, ◌%◌, ◌^◌, ◌≤◌, ◌<◌}
+use Prim.Native.Nat.{ℕ, ◌+◌, ◌*◌, ◌/◌, ◌%◌, ◌^◌, ◌≤◌, ◌<◌}
 use native.Mathlib.Omega.{arith}
-use native.Mathlib.Nat.{div-eq_of_lt, mod-lt, pow-suc}
+use native.Mathlib.Nat.{div-eq_of_lt, pow-suc}
 use native.Mathlib.Numerals.{add-one}
 use mathlib.Core.Path.{◌≡◌, refl, sym, ap, ◌∙◌}
 use mathlib.Core.Bool.{Bool, true, false}
 use lib.Dec.{ltb}
-use lib.Pow.{pow_mono, pow_pos, shl_exact}
+use lib.Pow.{pow_mono, shl_exact}
 use native.Mathlib.Nat.{one-mul}
-use borrow.Author.Tests.{lt-ltb, le-ltb, ltb-true, ltb-false}
+use borrow.Author.Tests.{le-ltb, ltb-true}
 use Rattle.refusal.specs.Words.{pick}
 use Rattle.face_values.specs.Rate.{patterns, significand_of, shift_of, billionths_of}
 

@@ -1,4 +1,6 @@
 // Single values as text, from the numbers of an answer's layout: a signed number, tenths, degrees, a rate of turn, a string in quotes.
+#![tactic(auto)]
+
 ghost use Rattle.std.specs.Prelude.{◌≡◌, ◌<◌};
 ghost use Rattle.text_out.specs.Text.{text, put};
 ghost use Rattle.face_values.specs.Signed.{size_in, sign_in, signed_in};

@@ -1,11 +1,13 @@
 // Interrogation, type 15: which messages are asked of which stations (messages/interrogation.rs).
+#![tactic(auto)]
+
 ghost use Rattle.std.specs.Prelude.{◌≡◌, [], ◌∷◌, ◌≤◌};
 ghost use Rattle.interrogation.specs.Table.{table};
 ghost use Rattle.interrogation.specs.Interrogation.{no_message, no_station, no_interrogation, offset_of, dropped, kept, station_of};
 ghost use Rattle.interrogation.specs.Interrogation.{message_at, message_end, station_at, station_end, short, headed, Interrogates};
 
 // The slot in which the answer is asked for, counted from this one; absent where it is 0 or was not sent.
-#[derive(Drop)]
+#[derive(Clone, Copy)]
 pub enum SlotOffset {
     Absent,
     Of(u16),
@@ -24,14 +26,14 @@ impl SlotOffset {
 }
 
 // A message that is asked for.
-#[derive(Drop)]
+#[derive(Clone, Copy)]
 pub struct Message {
     pub message_type: u8,
     pub slot_offset: SlotOffset,
 }
 
 // A message, and the place after it.
-#[derive(Drop)]
+#[derive(Clone, Copy)]
 struct MessageRead {
     message: Message,
     next: usize,
@@ -86,7 +88,7 @@ impl Message {
 }
 
 // A station and the messages that are asked of it: the first `count` places of the list.
-#[derive(Drop)]
+#[derive(Clone, Copy)]
 pub struct Station {
     pub mmsi: u32,
     pub messages: [Message; 2],
@@ -94,7 +96,7 @@ pub struct Station {
 }
 
 // A station, and the place after it.
-#[derive(Drop)]
+#[derive(Clone, Copy)]
 struct StationRead {
     station: Station,
     next: usize,
@@ -166,7 +168,7 @@ impl Station {
 }
 
 // An interrogation: the first `count` places of the list are its stations.
-#[derive(Drop)]
+#[derive(Clone, Copy)]
 pub struct Interrogation {
     pub message_type: u8,
     pub repeat_indicator: u8,
@@ -176,14 +178,14 @@ pub struct Interrogation {
 }
 
 // Taken, or refused with 9: the message ends inside a needed field.
-#[derive(Drop)]
+#[derive(Clone, Copy)]
 pub enum Ending {
     Taken,
     Short,
 }
 
 // The answer. Where it is refused the interrogation is zero and absent.
-#[derive(Drop)]
+#[derive(Clone, Copy)]
 pub struct Interrogated {
     pub outcome: Ending,
     pub interrogation: Interrogation,

@@ -1,4 +1,6 @@
 // A message as the last 34 of an answer's 50 numbers, and its texts as 80 bytes.
+#![tactic(auto)]
+
 ghost use Rattle.std.specs.Prelude.{◌≡◌, length, replicate, ◌++◌};
 ghost use Rattle.text_out.specs.Text.{text, put};
 ghost use Rattle.layout_message.specs.Static.{part_numbers, length_numbers, static_numbers, text_bytes};

@@ -1,9 +1,11 @@
 // Numbers put into a lent slice from a place on, for callers that hold no enum: what does not fit is left out, as in crate `text_out`.
+#![tactic(auto)]
+
 ghost use Rattle.std.specs.Prelude.{◌≡◌, [], ◌∷◌, ◌+◌, ◌≤◌, length};
 ghost use Rattle.text_out.specs.Text.{text, put};
 
 // What may be absent: 0 and 0, or 1 and its number.
-#[derive(Drop)]
+#[derive(Clone, Copy)]
 pub struct Optional {
     pub there: u64,
     pub value: u64,

@@ -1,4 +1,6 @@
 // A position report as 34 numbers (types 1 to 3). A float is its bit pattern, and what may be absent two numbers.
+#![tactic(auto)]
+
 ghost use Rattle.std.specs.Prelude.{◌≡◌};
 ghost use Rattle.text_out.specs.Text.{text, put};
 ghost use Rattle.layout_position.specs.Position.{word_of, pattern_of, flag_of, reading_in, turn_in, heading_in, direction_number, movement_numbers};

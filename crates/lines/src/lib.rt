@@ -1,4 +1,6 @@
 // Lines out of blocks of input that were cut anywhere. A collector is a number; the blocks and the line's buffer are lent.
+#![tactic(auto)]
+
 pub mod texts;
 
 ghost use Rattle.std.specs.Prelude.{◌≡◌, [], ◌∷◌, ◌++◌, ◌+◌, min, length, drop};
@@ -7,14 +9,14 @@ ghost use Rattle.lines.specs.Held.{Within, kept_of, held_of};
 ghost use Rattle.lines.specs.Collect.{event_of, collect_of, last_of, collected_in};
 
 // How many bytes of the line that is not yet ended are held. One more than the most: all of them, and then a CR. Above that: it is too long already.
-#[derive(Drop)]
+#[derive(Clone, Copy)]
 pub struct Collector {
     pub len: usize,
 }
 
 // What a block brought: a line, whose bytes stand first in the buffer, or one that is too long, each with the place in the block to go on from;
 // or the block is used up and its last bytes are held; or the buffer is too short.
-#[derive(Drop)]
+#[derive(Clone, Copy)]
 pub enum Event {
     Line(usize, usize),
     TooLong(usize),
@@ -23,14 +25,14 @@ pub enum Event {
 }
 
 // What a call gives back.
-#[derive(Drop)]
+#[derive(Clone, Copy)]
 pub struct Collected {
     pub state: Collector,
     pub event: Event,
 }
 
 // How much is held after a run of bytes, and the place after them.
-#[derive(Drop)]
+#[derive(Clone, Copy)]
 struct Gathered {
     len: usize,
     at: usize,

@@ -1,4 +1,6 @@
 // Decoding alone: from unarmored bytes to one of the five message types (messages/mod.rs, `parse`).
+#![tactic(auto)]
+
 ghost use Rattle.std.specs.Prelude.{◌≡◌, false};
 ghost use Rattle.static_data_report.specs.StaticData.{static_data_of};
 ghost use Rattle.interrogation.specs.Interrogation.{interrogated_of};
@@ -11,7 +13,7 @@ use refusal::Refusal;
 use static_data_report::{Reported, StaticDataReport, Texts};
 
 // What a message tells. A static data report's texts and an interrogation's lists stand beside this enum, in `Message`.
-#[derive(Drop)]
+#[derive(Clone, Copy)]
 pub enum AisMessage {
     Nothing,
     PositionReport(PositionReport),
@@ -20,21 +22,21 @@ pub enum AisMessage {
 }
 
 // A message of any type; what it has not is zero, empty and absent.
-#[derive(Drop)]
+#[derive(Clone, Copy)]
 pub struct Message {
     pub content: AisMessage,
     pub texts: Texts,
     pub interrogation: Interrogation,
 }
 
-#[derive(Drop)]
+#[derive(Clone, Copy)]
 pub enum ParseOutcome {
     Taken,
     Refused(Refusal),
 }
 
 // The outcome, and the message; a refused one tells nothing.
-#[derive(Drop)]
+#[derive(Clone, Copy)]
 pub struct Decoded {
     pub outcome: ParseOutcome,
     pub message: Message,

@@ -1,12 +1,14 @@
 // Speed, course, position, turn, heading, accuracy and manoeuvre of a report (messages/navigation.rs).
 // Every function answers for every number that its type holds. A value is absent at document 01's number alone, and is else as sent.
+#![tactic(auto)]
+
 ghost use Rattle.std.specs.Prelude.{◌≡◌};
 ghost use Rattle.navigation.specs.Navigation.{tenths_of, speed_of, course_of, degrees_of, longitude_absent, latitude_absent, Coordinate, heading_of};
 ghost use Rattle.navigation.specs.Navigation.{turn_of, rate_of, direction_of, accuracy_of, accuracy_number, manoeuvre_of, manoeuvre_number};
 
 // A reading of speed, course, longitude, latitude or rate of turn: absent, or the value. One enum serves them all, so that what is said
 // of an absent reading is said once.
-#[derive(Drop)]
+#[derive(Clone, Copy)]
 pub enum Reading {
     Absent,
     Value(f32),
@@ -70,7 +72,7 @@ pub fn parse_cog(raw: u16) -> Reading
 }
 
 // The true heading in whole degrees.
-#[derive(Drop)]
+#[derive(Clone, Copy)]
 pub enum Heading {
     Absent,
     Of(u16),
@@ -87,7 +89,7 @@ pub fn parse_heading(raw: u16) -> Heading
 }
 
 // Whether the position was augmented by a differential signal.
-#[derive(Drop)]
+#[derive(Clone, Copy)]
 pub enum Accuracy {
     Unaugmented,
     Dgps,
@@ -113,20 +115,20 @@ impl Accuracy {
 }
 
 // A turn as it was sent.
-#[derive(Drop)]
+#[derive(Clone, Copy)]
 pub struct RateOfTurn {
     pub raw: i8,
 }
 
 // The turn of a report.
-#[derive(Drop)]
+#[derive(Clone, Copy)]
 pub enum Turn {
     Absent,
     Of(RateOfTurn),
 }
 
 // The side to which a ship turns: absent where it does not.
-#[derive(Drop)]
+#[derive(Clone, Copy)]
 pub enum Direction {
     Absent,
     Port,
@@ -179,7 +181,7 @@ impl RateOfTurn {
 }
 
 // The manoeuvre indicator.
-#[derive(Drop)]
+#[derive(Clone, Copy)]
 pub enum ManeuverIndicator {
     Absent,
     NoSpecialManeuver,

@@ -1,4 +1,6 @@
 // Fields of bits over a slice of bytes and a bit place, highest bit first, and six-bit text (messages/parsers.rs).
+#![tactic(auto)]
+
 pub mod little;
 
 ghost use Rattle.std.specs.Prelude.{◌≡◌, ◌+◌, ◌*◌, ◌^◌, ◌≤◌, ◌<◌, get_or};
@@ -8,14 +10,14 @@ ghost use Rattle.parsers.specs.Scan.{Led, Trailed};
 ghost use Rattle.parsers.specs.Text.{ascii_of, char_at, chars_of, text_with, text_of};
 
 // A field's bits as a number, or that the field does not lie within the slice.
-#[derive(Drop)]
+#[derive(Clone, Copy)]
 pub enum Taken {
     Bits(u64),
     Past,
 }
 
 // A text of at most 20 characters; the places past its length are 0.
-#[derive(Drop)]
+#[derive(Clone, Copy)]
 pub struct Text {
     pub bytes: [u8; 20],
     pub len: usize,

@@ -1,4 +1,6 @@
 // Position reports, types 1 to 3 (messages/position_report.rs).
+#![tactic(auto)]
+
 ghost use Rattle.std.specs.Prelude.{◌≡◌};
 ghost use Rattle.parsers.specs.Table.{number_at, signed_at};
 ghost use Rattle.navigation.specs.Navigation.{turn_of};
@@ -10,7 +12,7 @@ use parsers::Taken;
 use radio_status::{Radio, RadioStatus};
 
 // What a ship says that it is doing.
-#[derive(Drop)]
+#[derive(Clone, Copy)]
 pub enum NavigationStatus {
     Absent,
     UnderWayUsingEngine,
@@ -82,7 +84,7 @@ impl NavigationStatus {
 
 // A report: each field as sent or absent, the rate and the direction that its turn tells, and the raw number beside each speed, course
 // and position.
-#[derive(Drop)]
+#[derive(Clone, Copy)]
 pub struct PositionReport {
     pub message_type: u8,
     pub repeat_indicator: u8,
@@ -108,7 +110,7 @@ pub struct PositionReport {
 }
 
 // A report; that the message ends inside a field of it; or that its type is another.
-#[derive(Drop)]
+#[derive(Clone, Copy)]
 pub enum Position {
     Report(PositionReport),
     Short,

@@ -1,10 +1,12 @@
 // Why a call is refused (errors.rs): the thirteen refusals of document 01, one enum for every layer.
+#![tactic(auto)]
+
 ghost use Rattle.std.specs.Prelude.{◌≡◌, [], ◌∷◌};
 ghost use Rattle.refusal.specs.Refusal.{row_of};
 ghost use Rattle.refusal.specs.Values.{Returned, count_by};
 
 // In document 01's order, from 1 to 13, with what is also returned.
-#[derive(Drop)]
+#[derive(Clone, Copy)]
 pub enum Refusal {
     LineTooLong,
     Line,
@@ -46,7 +48,7 @@ pub fn number(refusal: Refusal) -> u8
 }
 
 // What a refusal also returns: how many values there are, the first and the second, each 0 where there is none.
-#[derive(Drop)]
+#[derive(Clone, Copy)]
 pub struct Values {
     pub count: u64,
     pub first: u64,

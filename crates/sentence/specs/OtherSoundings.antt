@@ -1,6 +1,5 @@
 -- Lines that a receiver passes on, each with whether it is a sentence of another kind. The first is of a GPS receiver, the next two are the examples of the
 -- usual descriptions of NMEA 0183, the fourth is a text of an AIS transponder.
-use Prim.Native.String.{String}
 use Rattle.std.specs.Prelude.{Bool, true, false, List, [], ◌∷◌, ◌++◌, ℕ}
 use Rattle.text_out.specs.Text.{ascii}
 use Rattle.sentence.specs.Other.{cr, other_sentence}

@@ -1,4 +1,6 @@
 // The static data report, type 24 (messages/static_data_report.rs).
+#![tactic(auto)]
+
 ghost use Rattle.std.specs.Prelude.{◌≡◌};
 ghost use Rattle.static_data_report.specs.Table.{table};
 ghost use Rattle.static_data_report.specs.StaticData.{no_texts, name_of, part_b_of, part_b_texts_of, report_of, no_report, Reports};
@@ -6,7 +8,7 @@ ghost use Rattle.static_data_report.specs.StaticData.{no_texts, name_of, part_b_
 use parsers::Text;
 
 // Part B's numbers. The ship type is the number as sent.
-#[derive(Drop)]
+#[derive(Clone, Copy)]
 pub struct PartB {
     pub ship_type: u8,
     pub unit_model_code: u8,
@@ -18,14 +20,14 @@ pub struct PartB {
 }
 
 // Which part the report is. Its texts stand beside this enum, in `Texts` (document 01: "keep these arrays beside the enums").
-#[derive(Drop)]
+#[derive(Clone, Copy)]
 pub enum MessagePart {
     PartA,
     PartB(PartB),
     Unknown(u8),
 }
 
-#[derive(Drop)]
+#[derive(Clone, Copy)]
 pub struct StaticDataReport {
     pub message_type: u8,
     pub repeat_indicator: u8,
@@ -34,7 +36,7 @@ pub struct StaticDataReport {
 }
 
 // The name is part A's, the other three are part B's; a text that the message has not is empty.
-#[derive(Drop)]
+#[derive(Clone, Copy)]
 pub struct Texts {
     pub vessel_name: Text,
     pub vendor_id: Text,
@@ -43,13 +45,13 @@ pub struct Texts {
 }
 
 // The report, or that the message ends inside a needed field (refusal 9).
-#[derive(Drop)]
+#[derive(Clone, Copy)]
 pub enum Reported {
     Report(StaticDataReport),
     Short,
 }
 
-#[derive(Drop)]
+#[derive(Clone, Copy)]
 pub struct StaticData {
     pub report: Reported,
     pub texts: Texts,

@@ -1,5 +1,7 @@
 // What is said at the end of the inputs, for people: what the record still holds of a message; and counts of lines by what was answered: all lines, complete
 // messages by type, unfinished ones, refused ones by number.
+#![tactic(auto)]
+
 ghost use Rattle.std.specs.Prelude.{◌≡◌};
 ghost use Rattle.text_out.specs.Text.{text, put};
 ghost use Rattle.summary.specs.Tally.{another_kind, the_one_more, bumped, counted_of};

@@ -1,5 +1,7 @@
 // Text put into a lent buffer from a place on: bytes, hex, decimals. What does not fit is left out, and each function answers the place after
 // what it put, so that a caller puts one piece after the other and tests nothing in between.
+#![tactic(auto)]
+
 ghost use Rattle.std.specs.Prelude.{◌≡◌, [], ◌∷◌, ◌<◌, ◌≤◌, min, length, take, drop};
 ghost use Rattle.text_out.specs.Text.{text, put};
 ghost use Rattle.text_out.specs.Digits.{glyph, decimal_of, hex_of, word_of};
@@ -21,7 +23,7 @@ pub fn put_bytes(out: &mut [u8], at: usize, s: &[u8]) -> usize
 {
     if at <= out.len() {
         if s.len() <= out.len() - at {
-            bytes::copy(s, &mut out[at..]);
+            out[at..at + s.len()].copy_from_slice(s);
             return at + s.len();
         }
     }

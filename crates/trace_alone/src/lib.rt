@@ -1,4 +1,6 @@
 // The commands of the comparing protocol that have nothing to do with the record: `unarmor`, `write` and `decode`.
+#![tactic(auto)]
+
 ghost use Rattle.std.specs.Prelude.{◌≡◌};
 ghost use Rattle.text_out.specs.Text.{text, put};
 ghost use Rattle.trace_alone.specs.Alone.{decode_said, alone_said};
@@ -33,7 +35,7 @@ fn say_unarmor(line: &[u8], out: &mut [u8], at: usize) -> usize
     let Unarmor::Of(fill, room) = trace_commands::ask_unarmor(line) else {
         return trace_commands::say_bad(out, at);
     };
-    let mut payload = io::buffer();
+    let mut payload = [0u8; 4096];
     let Filled::Bytes(n) = trace_commands::words::bytes(line, 3, &mut payload) else {
         return trace_commands::say_bad(out, at);
     };
@@ -84,7 +86,7 @@ fn say_decode(line: &[u8], out: &mut [u8], at: usize) -> usize
     if trace_commands::words::count(line) != 2 {
         return trace_commands::say_bad(out, at);
     }
-    let mut payload = io::buffer();
+    let mut payload = [0u8; 4096];
     let Filled::Bytes(n) = trace_commands::words::bytes(line, 1, &mut payload) else {
         return trace_commands::say_bad(out, at);
     };

@@ -1,4 +1,6 @@
 // What a call of the reader gives back, as the comparing protocol shows it: the answer, KEPT, and the record.
+#![tactic(auto)]
+
 ghost use Rattle.std.specs.Prelude.{◌≡◌};
 ghost use Rattle.ais.specs.Call.{called_in};
 ghost use Rattle.text_out.specs.Text.{text, put};

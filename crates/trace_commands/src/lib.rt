@@ -1,4 +1,6 @@
 // What a command of the comparing protocol asks: the words of its line, read as numbers; and what is said to a line that is no command.
+#![tactic(auto)]
+
 pub mod words;
 
 ghost use Rattle.std.specs.Prelude.{◌≡◌};
@@ -11,28 +13,28 @@ use reassembly::Record;
 use words::Number;
 
 // FILL and ROOM of `unarmor`.
-#[derive(Drop)]
+#[derive(Clone, Copy)]
 pub enum Unarmor {
     Of(u64, u64),
     Bad,
 }
 
 // DECODE, ROOM and BITROOM of `read`.
-#[derive(Drop)]
+#[derive(Clone, Copy)]
 pub enum Read {
     Of(Decode, u64, u64),
     Bad,
 }
 
 // ID, FRAGMENT and LENGTH of `lend`.
-#[derive(Drop)]
+#[derive(Clone, Copy)]
 pub enum Lend {
     Of(sentence::Number, u8, u64),
     Bad,
 }
 
 // A message number or none, or that the word is neither.
-#[derive(Drop)]
+#[derive(Clone, Copy)]
 enum Id {
     Of(sentence::Number),
     Bad,
@@ -131,7 +133,7 @@ pub fn say_bad(out: &mut [u8], at: usize) -> usize
 }
 
 // The record after a command, and the place after what was said.
-#[derive(Drop)]
+#[derive(Clone, Copy)]
 pub struct Answered {
     pub state: Record,
     pub at: usize,

@@ -7,21 +7,21 @@ ghost use Rattle.trace_commands.specs.Hex.{all_hex, bytes_of, pairs_of, Fills};
 ghost use Rattle.text_out.specs.Text.{text, put};
 
 // What a decimal says, or that the word is none.
-#[derive(Drop)]
+#[derive(Clone, Copy)]
 pub enum Number {
     Of(u64),
     Bad,
 }
 
 // How many bytes were read into the lent buffer, or that the word has none or more than fit.
-#[derive(Drop)]
+#[derive(Clone, Copy)]
 pub enum Filled {
     Bytes(usize),
     Bad,
 }
 
 // Where a word stands in its line.
-#[derive(Drop)]
+#[derive(Clone, Copy)]
 struct Span {
     from: usize,
     to: usize,

@@ -1,4 +1,6 @@
 // The comparing protocol: a command line is answered by its first word.
+#![tactic(auto)]
+
 ghost use Rattle.std.specs.Prelude.{◌≡◌, take};
 ghost use Rattle.text_out.specs.Text.{text, put};
 ghost use Rattle.trace_protocol.specs.Lend.{fresh_reply, lend_reply};
@@ -72,7 +74,7 @@ fn say_read(state: Record, line: &[u8], out: &mut [u8], at: usize) -> Answered
     let Read::Of(decode, room, bitroom) = trace_commands::ask_read(line) else {
         return trace_commands::no_command(state, out, at);
     };
-    let mut sent = io::buffer();
+    let mut sent = [0u8; 4096];
     let Filled::Bytes(n) = trace_commands::words::bytes(line, 4, &mut sent) else {
         return trace_commands::no_command(state, out, at);
     };

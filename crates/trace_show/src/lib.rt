@@ -1,5 +1,7 @@
 // How the comparing protocol shows what a call gives back: a refusal, the record, the bytes that it filled, and whether the lent bytes beyond them are
 // untouched.
+#![tactic(auto)]
+
 pub mod face;
 
 ghost use Rattle.std.specs.Prelude.{◌≡◌, ◌++◌, drop, length, take, ◌≤◌};

@@ -11,7 +11,7 @@ use trace_commands::Answered;
 const MOST: u16 = 8192;
 
 // What a turn gives back: how far the input was taken, what came, the record, and the place after what was said.
-#[derive(Drop)]
+#[derive(Clone, Copy)]
 pub struct Turned {
     pub input: Input,
     pub next: Next,

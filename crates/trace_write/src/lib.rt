@@ -1,4 +1,6 @@
 // The command `write` of the comparing protocol: the words of its line, read as what the writer is asked for, and what is said to it.
+#![tactic(auto)]
+
 ghost use Rattle.std.specs.Prelude.{◌≡◌};
 ghost use Rattle.text_out.specs.Text.{text, put};
 ghost use Rattle.trace_commands.specs.Line.{word_at};
@@ -10,32 +12,32 @@ use trace_commands::words::{Filled, Number};
 use writer::{Request, Written};
 
 // A request and ROOM of `write`.
-#[derive(Drop)]
+#[derive(Clone, Copy)]
 enum Asked {
     Of(Request, u64),
     Bad,
 }
 
 // What a word says, or that it is none of these.
-#[derive(Drop)]
+#[derive(Clone, Copy)]
 enum Talker {
     Of(TalkerId),
     Bad,
 }
 
-#[derive(Drop)]
+#[derive(Clone, Copy)]
 enum Report {
     Of(AisReportType),
     Bad,
 }
 
-#[derive(Drop)]
+#[derive(Clone, Copy)]
 enum Way {
     Of(Channel),
     Bad,
 }
 
-#[derive(Drop)]
+#[derive(Clone, Copy)]
 enum Wanted {
     Of(Request),
     Bad,
@@ -48,7 +50,7 @@ pub fn say_write(line: &[u8], out: &mut [u8], at: usize) -> usize
     let Asked::Of(request, room) = ask_write(line) else {
         return trace_commands::say_bad(out, at);
     };
-    let mut payload = io::buffer();
+    let mut payload = [0u8; 4096];
     let Filled::Bytes(n) = trace_commands::words::bytes(line, 7, &mut payload) else {
         return trace_commands::say_bad(out, at);
     };

@@ -1,4 +1,6 @@
 // The writer: a message's bits as lines, which the reader gives back. The crate ais has none.
+#![tactic(auto)]
+
 pub mod written_line;
 
 ghost use Rattle.std.specs.Prelude.{◌≡◌, false, [], ◌∷◌, ◌+◌, ◌/◌, ◌≤◌, ◌<◌, eqb, length, get_or};
@@ -16,7 +18,7 @@ use refusal::Refusal;
 use sentence::{AisReportType, Channel, TalkerId};
 
 // What is asked for, beside the bytes that hold the bits: how many bits they are, and what each line says.
-#[derive(Drop)]
+#[derive(Clone, Copy)]
 pub struct Request {
     pub count: usize,
     pub talker_id: TalkerId,
@@ -26,7 +28,7 @@ pub struct Request {
 }
 
 // How many bytes stand first in the output, or why there are none.
-#[derive(Drop)]
+#[derive(Clone, Copy)]
 pub enum Written {
     Lines(usize),
     Refused(Refusal),

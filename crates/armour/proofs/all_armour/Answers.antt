@@ -1,0 +1,26 @@
+-- `all_armour`: each byte in turn tells whether the first bad one stands later. Assumes nothing.
+use mathlib.Core.Path.{◌≡◌, sym, ap, ◌∙◌}
+use mathlib.Core.Bool.{Bool, ◌&&◌}
+use Prim.Native.Nat.{ℕ}
+use native.Mathlib.Omega.{arith}
+use borrow.Author.Tests.{le-leb}
+use lib.Dec.{leb}
+use lib.ListN.{length}
+use Rattle.armour.specs.Armour.{first_bad}
+use Rattle.armour.proofs.Laws.{good_next}
+use Rattle.armour.proofs.all_armour.Goals as goal
+
+pub loop-i-init : goal.loop-i-init
+loop-i-init c = (sym (le-leb 0 (first_bad c.args.payload.now) (omega arith)), omega arith)
+
+pub loop-i-preserved : goal.loop-i-preserved
+loop-i-preserved c = (
+  ap (λ (t : Bool). t && c.is_armour-good.result) c.loop-i.invariant.0 ∙ ap (λ (t : Bool). leb c.loop-i.i (first_bad c.args.payload.now) && t) c.is_armour-good.ensures
+      ∙ good_next c.args.payload.now c.loop-i.i (omega arith),
+  omega arith,
+)
+
+pub returns : goal.returns
+returns c =
+    let e : c.loop-i.i ≡ length c.args.payload.now = omega arith in
+    c.loop-i.invariant.0 ∙ ap (λ (n : ℕ). leb n (first_bad c.args.payload.now)) e

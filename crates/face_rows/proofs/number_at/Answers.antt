@@ -1,0 +1,8 @@
+-- `face_rows::number_at` meets its contract. Assumes nothing.
+use lib.ListN.{get_or-eq_default}
+use native.Mathlib.Omega.{arith}
+use mathlib.Core.Path.{sym}
+use Rattle.face_rows.proofs.number_at.Goals as goal
+
+pub returns : goal.returns
+returns c = sym (get_or-eq_default c.args.numbers.now 0 (omega arith))

@@ -1,0 +1,6 @@
+-- `face_values::put_code` meets its contract. Assumes nothing.
+use Rattle.text_out.proofs.Laws.{put_then}
+use Rattle.face_values.proofs.put_code.Goals as goal
+
+pub returns : goal.returns
+returns c = put_then _ _ _ c.put_bytes-a.ensures c.put_hex.ensures

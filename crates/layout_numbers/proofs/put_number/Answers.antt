@@ -1,0 +1,12 @@
+-- `layout_numbers::put_number` meets its contract. Assumes nothing.
+use borrow.Author.Tests.{lt-ltb, le-ltb}
+use Rattle.text_out.specs.Text.{put, put1}
+use Rattle.layout_numbers.proofs.put_number.Goals as goal
+
+pub returns-then-at-out : goal.returns-then-at-out
+unfolding put put1
+returns-then-at-out c = rw (lt-ltb _ _ c.if-at-out.true)
+
+pub returns : goal.returns
+unfolding put put1
+returns c = rw (le-ltb _ _ c.if-at-out.false)
