@@ -1,4 +1,6 @@
 // AIS lines, as a receiver or a log gives them, to a JSON object for each complete message and each refused line.
+#![tactic(auto)]
+
 use decoding::Asked;
 use inputs::{Gone, Source, Way};
 use json_told::{Kept, Show};
@@ -6,7 +8,7 @@ use json_told::{Kept, Show};
 const PROGRAM: [u8; 6] = *b"decode";
 
 // Where lines come from, what is kept of them beside the record, and how far the run is.
-#[derive(Clone, Copy)]
+#[derive(Drop)]
 struct Run {
     source: Source,
     kept: Kept,
@@ -15,6 +17,7 @@ struct Run {
 
 // One line more, answered: the next one, or the last one of an input. Between two lines what was told is written and more is read.
 fn answer_one(
+    rt: &HostRuntime,
     s: Run,
     show: Show,
     state: &mut [u8],
@@ -42,6 +45,7 @@ fn answer_one(
     let next = t.next;
     let rest = inputs::taken(source, t.input);
     let gone = inputs::go_on(
+        rt,
         &PROGRAM,
         told.number,
         rest,
@@ -69,6 +73,7 @@ fn after(gone: Gone, told: Kept) -> Run {
 
 // All lines. Nothing says that an input ends, so the loop counts its rounds down, from a number that no run uses up.
 fn answer_all(
+    rt: &HostRuntime,
     s: Run,
     show: Show,
     state: &mut [u8],
@@ -84,76 +89,77 @@ fn answer_all(
         if !inputs::is_on(way) {
             return now;
         }
-        now = answer_one(now, show, state, block, line, out, tally);
+        now = answer_one(rt, now, show, state, block, line, out, tally);
         rounds -= 1;
     }
     now
 }
 
 // The inputs that are asked for, and what is said at their end. Answers the status: 0 where all went well, 1 where a call failed.
-fn answer_inputs(asked: Asked) -> u8 {
-    let mut out = io::large_buffer();
-    let mut block = io::large_buffer();
+fn answer_inputs(rt: &HostRuntime, asked: Asked) -> u8 {
+    let mut out = [0u8; 65536];
+    let mut block = [0u8; 65536];
     let mut state = [0u8; 400];
     let mut line = [0u8; 1024];
     let mut tally = [0u64; 256];
     let none = Kept { number: 0, used: 0 };
-    let begun = after(inputs::first_input(&PROGRAM, asked.inputs), none);
+    let begun = after(inputs::first_input(rt, &PROGRAM, asked.inputs), none);
     let show = decoding::show_of(asked.quiet);
     let end = answer_all(
-        begun, show, &mut state, &mut block, &mut line, &mut out, &mut tally,
+        rt, begun, show, &mut state, &mut block, &mut line, &mut out, &mut tally,
     );
     let kept = end.kept;
     let way = end.way;
-    let status = inputs::finish(&PROGRAM, kept.number, way, &out, kept.used);
-    say_end(&state, asked.summary, &tally);
+    let status = inputs::finish(rt, &PROGRAM, kept.number, way, &out, kept.used);
+    say_end(rt, &state, asked.summary, &tally);
     status
 }
 
 // What is said on standard error at the end: a message that is unfinished, and counts where they are asked.
-fn say_end(state: &[u8], counts: bool, tally: &[u64]) {
-    let mut words = io::buffer();
+fn say_end(rt: &HostRuntime, state: &[u8], counts: bool, tally: &[u64]) {
+    let mut words = [0u8; 4096];
     let n = summary::put_end(&mut words, 0, state, counts, tally);
-    stream::say(&words, n);
+    stream::say(rt, &words, n);
 }
 
 // What the words of the command line ask.
-fn ask() -> Asked {
-    let count = os::arg_count();
+fn ask(rt: &HostRuntime) -> Asked {
+    let count = inputs::arg_count(rt);
     let mut asked = decoding::nothing_asked();
     let mut i = 1;
     while i < count {
-        asked = ask_by(asked, i);
+        asked = ask_by(rt, asked, i);
         i += 1;
     }
     asked
 }
 
 // One word more.
-fn ask_by(asked: Asked, i: usize) -> Asked {
-    let mut word = io::buffer();
-    let n = os::arg(i, &mut word);
+fn ask_by(rt: &HostRuntime, asked: Asked, i: usize) -> Asked {
+    let mut word = [0u8; 4096];
+    let n = inputs::arg(rt, i, &mut word);
     decoding::asked_by(asked, &word[..n], i)
 }
 
 // What is asked, done. Answers the status.
-fn answer(asked: Asked) -> u8 {
+fn answer(rt: &HostRuntime, asked: Asked) -> u8 {
     if asked.help {
-        return help();
+        return help(rt);
     }
     if asked.unknown > 0 {
-        inputs::say_unknown(&PROGRAM, asked.unknown);
+        inputs::say_unknown(rt, &PROGRAM, asked.unknown);
         return 2;
     }
-    if !inputs::are_readable(&PROGRAM) {
+    if !inputs::are_readable(rt, &PROGRAM) {
         return 2;
     }
-    answer_inputs(asked)
+    answer_inputs(rt, asked)
 }
 
 // The usage. Answers the status.
-fn help() -> u8 {
+fn help(rt: &HostRuntime) -> u8 {
     inputs::put_usage(
+        rt,
         b"usage: decode [--quiet] [--summary] [FILE..]\n\
       Reads AIS lines from the files in turn, or from standard input where none is named or the name is -,\n\
       and writes a JSON object for each complete message and each refused line, one to a line.\n  \
@@ -163,10 +169,10 @@ fn help() -> u8 {
     )
 }
 
-fn main() {
-    let asked = ask();
-    let status = answer(asked);
+fn main(rt: HostRuntime) {
+    let asked = ask(&rt);
+    let status = answer(&rt, asked);
     if asked.status {
-        inputs::tell_status(status);
+        inputs::tell_status(&rt, status);
     }
 }

@@ -6,10 +6,9 @@ use mathlib.Core.List.{List}
 use lib.Dec.{leb}
 use Rattle.stream.specs.declared.Came.{Came}
 use Rattle.stream.specs.declared.Filled.{Filled}
-use Rattle.stream.specs.Moves.{Some, Fills}
+use Rattle.stream.specs.Moves.{Fills}
 use Rattle.inputs.specs.declared.Source.{Source}
 use Rattle.inputs.specs.declared.Way.{Way}
-use Rattle.inputs.specs.declared.Gone.{Gone}
 use Rattle.inputs.specs.Goes.{source_of, Brought, Reads, Empties}
 
 module _ (source : Source) (used : ℕ) (f : Filled) (block : List ℕ) {s : Source} (fills : Fills source.input f block)
@@ -32,10 +31,10 @@ module _ (source : Source) (used : ℕ) (f : Filled) (block : List ℕ) {s : Sou
   pub read-end : f.came ≡ Came.End → Reads source used (record { source = s; used = 0; way = Way.Last }) block
   read-end e = read_by Way.Last 0 (rw e at fills.some, refl)
 
-  pub not-read : f.came ≡ Came.Unread → Reads source used (record { source = s; used = 0; way = Way.Stopped }) block
+  pub not-read : {e : _} → f.came ≡ Came.Unread e → Reads source used (record { source = s; used = 0; way = Way.Stopped }) block
   not-read e = read_by Way.Stopped 0 (rw e at fills.some, refl)
 
-  pub not_written : f.came ≡ Came.Unwritten → Reads source used (record { source = s; used = used; way = Way.Failed }) block
+  pub not_written : {e : _} → f.came ≡ Came.Unwritten e → Reads source used (record { source = s; used = used; way = Way.Failed }) block
   not_written e = read_by Way.Failed used (rw e at fills.some, refl)
 
 module _ (source : Source) (used : ℕ) {full : Bool} (is : full ≡ leb 49152 used) where

@@ -1,14 +1,15 @@
 -- What can be promised of what is done between two lines: of what is read and written no promise can speak.
-use Rattle.std.specs.Prelude.{ℕ, ◌≤◌, ◌<◌, ◌≡◌, Bool, true, false, List, leb, ℤ, length}
+use Rattle.std.specs.Prelude.{ℕ, ◌≤◌, ◌<◌, ◌≡◌, Bool, true, false, List, leb, length}
 use Rattle.refusal.specs.Words.{pick}
 use Rattle.stream.specs.declared.Input.{Input}
 use Rattle.stream.specs.declared.Next.{Next}
 use Rattle.stream.specs.Next.{at_start}
+use Rattle.inputs.specs.declared.Origin.{Origin}
 use Rattle.inputs.specs.declared.Source.{Source}
 use Rattle.inputs.specs.declared.Way.{Way}
 use Rattle.inputs.specs.declared.Gone.{Gone}
 
-abbrev pub source_of : Input → ℤ → ℕ → Source
+abbrev pub source_of : Input → Origin → ℕ → Source
 source_of input from place = record { input = input; from = from; place = place }
 
 abbrev pub is_on : Way → Bool

@@ -1,9 +1,13 @@
 -- The words of a command line, and what is said of a wrong one.
-use Rattle.std.specs.Prelude.{ℕ, Bool, true, not, List, ◌++◌, eqb, ltb, length, get_or}
+use Rattle.std.specs.Prelude.{ℕ, ◌≡◌, ◌≤◌, Bool, true, not, List, ◌++◌, eqb, ltb, length, take, get_or}
 use Rattle.refusal.specs.Words.{pick}
 use Rattle.lines.specs.Same.{same_as}
 use Rattle.text_out.specs.Text.{ascii}
 use Rattle.inputs.specs.declared.Word.{Word}
+
+-- the first n bytes of a buffer, which has so many; the second part follows from the first, and spares a caller's `&buf[..n]` a proof
+abbrev pub IsPrefixLen : ℕ → List ℕ → Type 0
+IsPrefixLen n xs = (n ≤ length xs) × (n ≡ length (take n xs))
 
 -- a word names an input where it does not start with `-` (45), or is `-` alone, as POSIX's guidelines for utilities have it
 unfoldable pub is_input : List ℕ → Bool

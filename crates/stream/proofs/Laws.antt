@@ -1,5 +1,5 @@
 -- What the block gives, from what the collector was called with; and what reading on leaves. Assumes nothing.
-use Prim.Native.Nat.{ℕ, zero, min, ◌<◌}
+use Prim.Native.Nat.{ℕ, min}
 use native.Mathlib.Omega.{arith}
 use mathlib.Core.Path.{◌≡◌, refl, sym, ap, ◌∙◌}
 use mathlib.Core.Bool.{Bool}

@@ -1,5 +1,6 @@
 // The writer: a message's bits as lines, which the reader gives back. The crate ais has none.
 #![tactic(auto)]
+
 pub mod written_line;
 
 ghost use Rattle.std.specs.Prelude.{◌≡◌, false, [], ◌∷◌, ◌+◌, ◌/◌, ◌≤◌, ◌<◌, eqb, length, get_or};

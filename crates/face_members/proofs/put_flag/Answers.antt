@@ -1,0 +1,10 @@
+-- `face_members::put_flag` meets its contract. Assumes nothing.
+use mathlib.Core.Path.{sym, ◌∙◌}
+use borrow.Author.Tests.{ne_eqb}
+use Rattle.face_members.proofs.put_flag.Goals as goal
+
+pub returns-then-n-eq1 : goal.returns-then-n-eq1
+returns-then-n-eq1 c = rw (sym c.number_at-n.ensures ∙ c.if-n-eq1.true) c.put_bytes.ensures
+
+pub returns : goal.returns
+returns c = rw (sym c.number_at-n.ensures, ne_eqb _ _ c.if-n-eq1.false) c.put_bytes-2.ensures

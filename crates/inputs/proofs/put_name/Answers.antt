@@ -1,0 +1,8 @@
+-- A file's name, put after the program's. Assumes nothing.
+use Rattle.text_out.proofs.Laws.{put_then}
+use Rattle.inputs.specs.Words.{named_text}
+use Rattle.inputs.proofs.put_name.Goals as goal
+
+pub returns : goal.returns
+unfolding named_text
+returns c = put_then _ _ _ (put_then _ _ _ c.put_bytes-a.ensures c.put_bytes-b.ensures) c.put_bytes.ensures
