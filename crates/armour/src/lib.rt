@@ -10,14 +10,14 @@ ghost use Rattle.armour.specs.Unarmor.{Unarmors};
 use refusal::Refusal;
 
 // How many bytes stand first in the output, or why there are none.
-#[derive(Drop)]
+#[derive(Clone, Copy)]
 pub enum Unarmored {
     Bytes(usize),
     Refused(Refusal),
 }
 
 // The type that a payload's first byte tells, absent where that byte is no armour.
-#[derive(Drop)]
+#[derive(Clone, Copy)]
 pub enum TrueType {
     Absent,
     Of(u8),

@@ -14,31 +14,34 @@ use Rattle.writer.proofs.Sendable.{count_range, sendable}
 use Rattle.writer.proofs.Lines.{lines_are, put_pieces, said, inner_line, last_line}
 use Rattle.writer.proofs.put_body.Goals as goal
 
--- what is known at the start: few characters, and a line's place is one of the message's
-module _ (q : Request) (bits : List ℕ) (i : ℕ) (h : (outside q bits ≡ false) × ((1 ≤ i) × (i ≤ lines_in (message_of q bits)))) where
-  count_small : q.count ≤ 2304
-  count_small = (count_range _ _ h.0).1
+-- what is known at the start, and after the count of lines
+module _ (q : Request) (d : List ℕ) where
+  count_small : outside q d ≡ false → q.count ≤ 2304
+  count_small inside = (count_range q d inside).1
 
-  in_place : i ≤ (chars_in q.count + 59) / 60
-  in_place = rw lines_are at h.1.1
+  in_place : (i : ℕ) → i ≤ lines_in (message_of q d) → i ≤ (chars_in q.count + 59) / 60
+  in_place i h = rw lines_are at h
+
+  found : {n : ℕ} → n ≡ (chars_in q.count + 59) / 60 → n ≡ lines_in (message_of q d)
+  found e = rw lines_are e
 
 pub lines_in-lines-requires : goal.lines_in-lines-requires
-lines_in-lines-requires c = count_small c.args.request c.args.bits.now c.args.i c.requires
+lines_in-lines-requires c = count_small _ _ c.requires.0
 
 pub overflow_add-chars : goal.overflow_add-chars
-overflow_add-chars c = omega (arith, count_small c.args.request c.args.bits.now c.args.i c.requires, in_place c.args.request c.args.bits.now c.args.i c.requires)
+overflow_add-chars c = omega (arith, count_small _ _ c.requires.0, in_place _ _ _ c.requires.1.1)
 
 pub overflow_mul-fill : goal.overflow_mul-fill
-overflow_mul-fill c = omega (arith, count_small c.args.request c.args.bits.now c.args.i c.requires, in_place c.args.request c.args.bits.now c.args.i c.requires)
+overflow_mul-fill c = omega (arith, count_small _ _ c.requires.0, in_place _ _ _ c.requires.1.1)
 
 pub overflow_mul-from : goal.overflow_mul-from
-overflow_mul-from c = omega (arith, count_small c.args.request c.args.bits.now c.args.i c.requires, in_place c.args.request c.args.bits.now c.args.i c.requires)
+overflow_mul-from c = omega (arith, count_small _ _ c.requires.0, in_place _ _ _ c.requires.1.1)
 
 pub put_numbers-b-requires : goal.put_numbers-b-requires
-put_numbers-b-requires c = (omega (arith, count_small c.args.request c.args.bits.now c.args.i c.requires, in_place c.args.request c.args.bits.now c.args.i c.requires), (omega (arith, count_small c.args.request c.args.bits.now c.args.i c.requires, in_place c.args.request c.args.bits.now c.args.i c.requires), (sendable _ _ c.requires.0).digit))
+put_numbers-b-requires c = (omega (arith, count_small _ _ c.requires.0, in_place _ _ _ c.requires.1.1), (omega (arith, count_small _ _ c.requires.0, in_place _ _ _ c.requires.1.1), (sendable _ _ c.requires.0).digit))
 
 pub put_payload-d-requires : goal.put_payload-d-requires
-put_payload-d-requires c = (count_small c.args.request c.args.bits.now c.args.i c.requires, (omega arith, omega (arith, count_small c.args.request c.args.bits.now c.args.i c.requires, in_place c.args.request c.args.bits.now c.args.i c.requires)))
+put_payload-d-requires c = (count_small _ _ c.requires.0, (omega arith, omega (arith, count_small _ _ c.requires.0, in_place _ _ _ c.requires.1.1)))
 
 pub returns-then-i-lines : goal.returns-then-i-lines
 returns-then-i-lines c =
@@ -46,16 +49,16 @@ returns-then-i-lines c =
     put_pieces x (said c.args.request c.lines_in-lines.result c.args.i (slice (60 * (c.args.i - 1)) (60 * (c.args.i - 1) + 60) (armoured c.args.bits.now c.args.request.count)) 0) c.put_address-a.ensures
     c.put_numbers-b.ensures c.put_channel-c.ensures c.put_payload-d.ensures c.put_fill.ensures
     ∙ ap (λ (p : Parts). put x (body_text p))
-    (inner_line c.args.request c.lines_in-lines.result c.args.i c.args.bits.now (rw lines_are c.lines_in-lines.ensures) c.requires.1.0 c.if-i-lines.true)
+    (inner_line c.args.request c.lines_in-lines.result c.args.i c.args.bits.now (found _ _ c.lines_in-lines.ensures) c.requires.1.0 c.if-i-lines.true)
 
 pub put_payload-d-requires-2 : goal.put_payload-d-requires-2
-put_payload-d-requires-2 c = (count_small c.args.request c.args.bits.now c.args.i c.requires, (omega (arith, count_small c.args.request c.args.bits.now c.args.i c.requires, in_place c.args.request c.args.bits.now c.args.i c.requires), omega arith))
+put_payload-d-requires-2 c = (count_small _ _ c.requires.0, (omega (arith, count_small _ _ c.requires.0, in_place _ _ _ c.requires.1.1), omega arith))
 
 pub returns : goal.returns
 returns c =
     let x = text 0 c.args.out.now in
-    let at_last : c.args.i ≡ c.lines_in-lines.result = omega (arith, in_place c.args.request c.args.bits.now c.args.i c.requires, c.lines_in-lines.ensures) in
+    let at_last : c.args.i ≡ c.lines_in-lines.result = omega (arith, in_place _ _ _ c.requires.1.1, c.lines_in-lines.ensures) in
     put_pieces x (said c.args.request c.lines_in-lines.result c.args.i (slice (60 * (c.args.i - 1)) (chars_in c.args.request.count) (armoured c.args.bits.now c.args.request.count)) (fill_in c.args.request.count))
     c.put_address-a.ensures c.put_numbers-b.ensures c.put_channel-c.ensures
     c.put_payload-d-2.ensures c.put_fill-2.ensures
-    ∙ ap (λ (p : Parts). put x (body_text p)) (last_line c.args.request c.lines_in-lines.result c.args.i c.args.bits.now (rw lines_are c.lines_in-lines.ensures) c.requires.1.0 at_last)
+    ∙ ap (λ (p : Parts). put x (body_text p)) (last_line c.args.request c.lines_in-lines.result c.args.i c.args.bits.now (found _ _ c.lines_in-lines.ensures) c.requires.1.0 at_last)

@@ -36,7 +36,7 @@ put_lines-requires c = sym c.is_outside.ensures ∙ c.if-is_outside.false
 
 pub returns : goal.returns
 returns c =
-    let b = (sym c.is_outside.ensures ∙ c.if-is_outside.false) in
+    let b = sym c.is_outside.ensures ∙ c.if-is_outside.false in
     let room : length (text_all (message_of c.args.request c.args.bits.now)) ≤ length c.args.out.now =
     omega (arith, length_found _ _ (sym c.is_outside.ensures ∙ c.if-is_outside.false) _ _ c.lines_in-lines.ensures c.beside.ensures, c.if-out-need.false) in
     answered-by _ _ _ (taken _) (says-taken _ _ _ b room) (ap taken (told-length _ _ _ _ c.put_lines.ensures room)) (stands-first _ _ _ _ c.put_lines.ensures room)

@@ -1,0 +1,14 @@
+-- `record_bytes::load` meets its contract. Assumes nothing.
+use mathlib.Core.Path.{◌∙◌}
+use lib.ListN.{length}
+use borrow.Author.Tests.{lt-ltb, le-ltb}
+use Rattle.record_bytes.proofs.Laws.{loaded}
+use Rattle.record_bytes.proofs.load.Goals as goal
+
+pub returns-then-state-lt400 : goal.returns-then-state-lt400
+returns-then-state-lt400 c = rw (lt-ltb (length c.args.state.now) 400 c.if-state-lt400.true) c.fresh.ensures
+
+pub returns : goal.returns
+returns c =
+    rw (le-ltb (length c.args.state.now) 400 c.if-state-lt400.false)
+    (c.made.ensures ∙ loaded c.args.state.now _ c.number_by-number.ensures _ c.length_in-len.ensures _ c.copy_from_slice.ensures.after)

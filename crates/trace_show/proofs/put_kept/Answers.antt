@@ -1,0 +1,8 @@
+-- `trace_show::put_kept` meets its contract. Assumes nothing.
+use Rattle.trace_show.proofs.put_kept.Goals as goal
+
+pub returns-then-kept : goal.returns-then-kept
+returns-then-kept c = rw c.if-kept.true c.put_bytes.ensures
+
+pub returns : goal.returns
+returns c = rw c.if-kept.false c.put_bytes-2.ensures
