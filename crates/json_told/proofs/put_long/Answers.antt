@@ -1,0 +1,13 @@
+-- `json_told::put_long` meets its contract. Assumes nothing.
+use mathlib.Core.Path.{refl, sym}
+use Rattle.refusal.specs.declared.Refusal.{Refusal}
+use Rattle.text_out.proofs.Laws.{put-nothing}
+use Rattle.json_told.proofs.put_long.Goals as goal
+
+pub returns-in-All : goal.returns-in-All
+returns-in-All c =
+    rw c.in-All.is
+    (c.put_refused.ensures Refusal.LineTooLong (record { its = refl; first = refl; second = refl }))
+
+pub returns-in-Quiet : goal.returns-in-Quiet
+returns-in-Quiet c = rw c.in-Quiet.is (sym (put-nothing _))
