@@ -1,15 +1,17 @@
 // Input line by line and output in large pieces, for every program that answers the lines it is given. What the system's calls do is assumed; what is
-// taken out of a block, what a read leaves as it was and what is said of a call that failed are promised.
+// taken out of a block, what a read leaves as it was and what is said of a call that failed are promised, and over a reader and a writer whose bytes are
+// known, as in a test, which bytes are read and written.
 #![tactic(auto)]
 
 mod pause;
 
-ghost use Rattle.std.specs.Prelude.{◌≡◌, leb};
+ghost use Rattle.std.specs.Prelude.{◌≡◌, ◌<◌, leb, length, take, OnOk};
 ghost use Rattle.std.specs.Io.{WritesAtMost};
+ghost use Rattle.std.specs.Io.KnownBytes.{Appends, Consumes, IsAtEnd, WriteAppends};
 ghost use Rattle.lines.specs.Collect.{next_of};
 ghost use Rattle.text_out.specs.Text.{text, put};
 ghost use Rattle.stream.specs.Next.{at_start, next_by, taken_with, in_block, at_end, comes_of};
-ghost use Rattle.stream.specs.Moves.{Fills, Brings, failure_text};
+ghost use Rattle.stream.specs.Moves.{Fills, Brings, Takes, Told, failure_text};
 
 use lines::{Collector, Event};
 use std::fmt::InlineText;
@@ -159,7 +161,10 @@ pub fn read_on<C: Clock, R: Read, W: Write>(
     out: &[u8],
     used: usize,
 ) -> Filled
-    ensures { Fills input result block.new }
+    ensures fills { Fills input result block.new }
+    ensures read { Consumes (R.remaining from.old) (R.remaining from.new) (take result.input.filled block.new) }
+    ensures end { result.came ≡ Came.End → 0 < length block.new → IsAtEnd (R.remaining from.new) }
+    ensures written { Told result.came (Appends (W.contents to.old) (W.contents to.new) (take used out.now)) }
 {
     if let Err(error) = write_out(clock, to, out, used) {
         return stopped(input, Came::Unwritten(error));
@@ -194,7 +199,8 @@ fn stopped(input: Input, came: Came) -> Filled
 
 // Reads once, and again where a call was interrupted or would have had to wait.
 fn read_some<C: Clock, R: Read>(clock: &C, from: &mut R, block: &mut [u8]) -> Got
-    ensures { Brings result block.new }
+    ensures brings { Brings result block.new }
+    ensures bytes { Takes result (R.remaining from.old) (R.remaining from.new) block.new }
 {
     let mut tries = u64::MAX;
     while tries > 0 {
@@ -234,14 +240,18 @@ pub fn is_full(used: usize) -> bool
 }
 
 // Writes the first `used` bytes of the output buffer, and answers why not all of them were taken where that is so.
-pub fn write_out<C: Clock, W: Write>(clock: &C, to: &mut W, out: &[u8], used: usize) -> Result<()> {
+pub fn write_out<C: Clock, W: Write>(clock: &C, to: &mut W, out: &[u8], used: usize) -> Result<()>
+    ensures { OnOk result (Appends (W.contents to.old) (W.contents to.new) (take used out.now)) }
+{
     let n = text_out::up_to(used, out);
     write_all(clock, to, &out[..n])?;
     to.flush()
 }
 
 // Writes all of the bytes, again where a call was interrupted or would have had to wait, until one fails.
-fn write_all<C: Clock, W: Write>(clock: &C, to: &mut W, bytes: &[u8]) -> Result<()> {
+fn write_all<C: Clock, W: Write>(clock: &C, to: &mut W, bytes: &[u8]) -> Result<()>
+    ensures { OnOk result (Appends (W.contents to.old) (W.contents to.new) bytes.now) }
+{
     let mut done = 0;
     let mut tries = u64::MAX;
     while done < bytes.len() {
@@ -264,7 +274,8 @@ fn write_all<C: Clock, W: Write>(clock: &C, to: &mut W, bytes: &[u8]) -> Result<
 
 // Writes once, and answers how many bytes were taken, or why the call failed.
 fn write_some<W: Write>(to: &mut W, bytes: &[u8]) -> Result<usize>
-    ensures { WritesAtMost result bytes.now }
+    ensures bound { WritesAtMost result bytes.now }
+    ensures bytes { WriteAppends (W.contents to.old) (W.contents to.new) result bytes.now }
 {
     to.write(bytes)
 }

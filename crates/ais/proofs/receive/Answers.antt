@@ -1,6 +1,6 @@
 -- `receive`: no room, or the payload handed out (proofs/Received). Assumes nothing.
 use native.Mathlib.Omega.{arith}
-use mathlib.Core.Path.{◌≡◌, ◌∙◌}
+use mathlib.Core.Path.{◌∙◌}
 use lib.ListN.{length}
 use borrow.Author.Tests.{lt-ltb, le-ltb}
 use Rattle.ais.proofs.Received.{receiving_room, receiving_large}
@@ -22,5 +22,5 @@ returns-then-bits-lt288 c =
 pub returns : goal.returns
 returns c =
     c.hand.ensures
-    ∙ receiving_large c.args.state c.args.s c.args.own.now c.args.decode c.args.payload.now c.args.bits.now ((let it : length c.args.state.bytes ≡ 384 = search rules in it))
+    ∙ receiving_large c.args.state c.args.s c.args.own.now c.args.decode c.args.payload.now c.args.bits.now (search rules)
     (record { room = omega arith; bit_room = omega arith })

@@ -1,7 +1,6 @@
 -- `step`: the checks before the record, and then its step (proofs/Called, proofs/Received). Assumes nothing.
-use mathlib.Core.Path.{◌≡◌, sym, ap, ◌∙◌}
+use mathlib.Core.Path.{sym, ap, ◌∙◌}
 use native.Mathlib.Omega.{arith}
-use lib.ListN.{length}
 use Rattle.ais.specs.Parts.{checked_in}
 use Rattle.ais.proofs.Called.{its-sentence, its-parsed, its_large, its-given, line_refused, line_received}
 use Rattle.ais.proofs.Received.{receiving_line}
@@ -42,7 +41,7 @@ pub returns-in-Sentence : goal.returns-in-Sentence
 returns-in-Sentence c =
     let e = (sym c.check.ensures ∙ ap checked_in c.in-Sentence.is) in
     c.hand.ensures
-    ∙ receiving_line c.args.state _ _ c.args.decode c.args.payload.now c.args.bits.now ((let it : length c.args.state.bytes ≡ 384 = search rules in it))
+    ∙ receiving_line c.args.state _ _ c.args.decode c.args.payload.now c.args.bits.now (search rules)
     (its_large c.args.state c.args.line.now c.args.decode c.args.payload.now c.args.bits.now _ e)
     (its-given c.args.state c.args.line.now c.args.decode c.args.payload.now c.args.bits.now _ e)
     ∙ line_received c.args.state c.args.line.now c.args.decode c.args.payload.now c.args.bits.now _ e
