@@ -1,0 +1,9 @@
+-- `trace_call::put_both_kept` meets its contract. Assumes nothing.
+use mathlib.Core.Path.{sym, ◌∙◌}
+use Rattle.trace_call.proofs.put_both_kept.Goals as goal
+
+pub returns-then-untouched : goal.returns-then-untouched
+returns-then-untouched c = rw (sym c.untouched.ensures ∙ c.if-untouched.true, sym c.untouched-then-untouched.ensures) c.put_kept.ensures
+
+pub returns : goal.returns
+returns c = rw (sym c.untouched.ensures ∙ c.if-untouched.false) c.put_kept-2.ensures
