@@ -34,6 +34,7 @@ record Said (t : Told Progress) : Type 0 where
 said : (t : Told Progress) (handed : List ℕ) (fill : ℕ) → Taken (told_by t handed fill) → Said t
 said (Told.taken Progress.complete) handed fill h = record { outcome = Outcome.Complete; says = refl }
 said (Told.taken Progress.unfinished) handed fill h = record { outcome = Outcome.Unfinished; says = refl }
+said (Told.refused _ _) handed fill h = elim h [ ]
 
 module _ (given : ℕ → Beside) where
   -- the call number p on a line that arrives, on paper

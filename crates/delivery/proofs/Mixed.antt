@@ -70,6 +70,7 @@ pub both_ours : AllOurs (message_in zeros ∷ message_in ones ∷ []) two_lines
 both_ours a (Memᴰ.head e) = rw e (record { was_sent = Memᴰ.head refl; from_one = omega arith; to_last = omega (arith, zeros_lines) })
 both_ours a (Memᴰ.tail (Memᴰ.head e)) =
     rw e (record { was_sent = Memᴰ.tail (Memᴰ.head refl); from_one = omega arith; to_last = omega (arith, ones_lines) })
+both_ours a (Memᴰ.tail (Memᴰ.tail x)) = elim x [ ]
 
 on_paper : (given : ℕ → Beside) → call_run given two_lines ≡ two_answers
 on_paper given = mixed given (message_in zeros) (message_in ones) (sent_sendable zeros) (sent_sendable ones) zeros_lines ones_lines refl
@@ -99,3 +100,4 @@ never_sent fill w = by w.was_sent
     by : Memᴰ w.which (message_in zeros ∷ message_in ones ∷ []) → ⊥
     by (Memᴰ.head e) = let z : ◌≡◌ {A = ℕ} 119 48 = sym joined_is.1 ∙ same 60 (message_in zeros) e ∙ payloads.0 in omega arith
     by (Memᴰ.tail (Memᴰ.head e)) = let z : ◌≡◌ {A = ℕ} 48 119 = sym joined_is.0 ∙ same 0 (message_in ones) e ∙ payloads.1 in omega arith
+    by (Memᴰ.tail (Memᴰ.tail x)) = elim x [ ]

@@ -68,6 +68,8 @@ on_paper : (calls : List Call) (r : Record) (arrivals : List Arrival) → Calls 
     → map answer_in calls ≡ answers_from (on_call (given_at calls)) 0 r arrivals
 unfolding on_call
 on_paper [] r [] k = refl
+on_paper [] r (a ∷ later) k = elim k [ ]
+on_paper (c ∷ cs) r [] k = elim k [ ]
 on_paper (c ∷ cs) r (a ∷ later) k =
     ap (λ (l : List Answer). answer_in c ∷ l)
     (on_paper cs c.state later k.1 ∙ sym (next_call (on_call (given_at (c ∷ cs))) 0 c.state later))

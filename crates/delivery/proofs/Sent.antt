@@ -2,7 +2,7 @@
 use Prim.Native.Nat.{ℕ}
 use mathlib.Core.Path.{◌≡◌, sym, ap, ◌∙◌}
 use mathlib.Core.Bool.{false}
-use mathlib.Core.List.{List, ◌∷◌, map, Memᴰ}
+use mathlib.Core.List.{List, [], ◌∷◌, map, Memᴰ}
 use lib.ListN.{length, take}
 use lib.Seq.{take_at}
 use Rattle.refusal.specs.Words.{Told, left, over}
@@ -44,6 +44,7 @@ module _ (s : Sent) where
   written = ap cut_after_lf first ∙ cut_all (message_in s) sent_sendable
 
 all_sendable : (sent : List Sent) → AllSendable (map message_in sent)
+all_sendable [] m x = elim x [ ]
 all_sendable (s ∷ sent) m (Memᴰ.head e) = rw e (sent_sendable s)
 all_sendable (s ∷ sent) m (Memᴰ.tail t) = all_sendable sent m t
 

@@ -160,6 +160,7 @@ all_ours a (Memᴰ.tail (Memᴰ.tail (Memᴰ.tail (Memᴰ.tail (Memᴰ.head e)))
     rw e (ours (line k 1) (Memᴰ.tail (Memᴰ.head refl)) (omega arith) (omega (arith, ones_lines)))
 all_ours a (Memᴰ.tail (Memᴰ.tail (Memᴰ.tail (Memᴰ.tail (Memᴰ.tail (Memᴰ.head e)))))) =
     rw e (ours (line k 2) (Memᴰ.tail (Memᴰ.head refl)) (omega arith) (omega (arith, ones_lines)))
+all_ours a (Memᴰ.tail (Memᴰ.tail (Memᴰ.tail (Memᴰ.tail (Memᴰ.tail (Memᴰ.tail x)))))) = elim x [ ]
 
 -- THE PREMISES ARE MET, with two messages of one number
 pub supposed : Supposed always (map message_in sent) arrivals

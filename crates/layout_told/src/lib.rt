@@ -1,4 +1,6 @@
 // What a line tells, in numbers and texts at once: a refusal, a line of an unfinished message, or a complete message.
+#![tactic(auto)]
+
 ghost use Rattle.std.specs.Prelude.{◌≡◌, List, ℕ};
 ghost use Rattle.answer.specs.Answer.{refuses, complete_of, unfinished_of};
 ghost use Rattle.layout_answer.specs.Answer.{told_in, told_of};

@@ -1,5 +1,6 @@
 // Reading a line over a record that the caller lends (sentence.rs, `AisParser::parse` over `&mut self`), and for programs.
 #![tactic(auto)]
+
 ghost use Rattle.std.specs.Prelude.{◌≡◌};
 ghost use Rattle.ais.specs.Call.{called_in, called_of};
 

@@ -8,9 +8,6 @@ use lib.Seq.{paste, paste-zero, paste-suc}
 use Rattle.record_bytes.proofs.Placed.{placed_paste}
 use Rattle.record_bytes.proofs.clear.Goals as goal
 
--- LOST same-length
--- same_length c = c.before.loop.invariant.3
-
 pub loop-i-init : goal.loop-i-init
 loop-i-init c =
     let zeros = replicate {A = ℕ} (400 - c.args.from) 0 in

@@ -30,9 +30,6 @@ returns-then-not-same_number c =
     ∙ sym c.same_number.ensures ∙ not-true c.same_number.result c.if-not-same_number.true-raw in
     joins_by _ _ _ _ _ _ (to_4 r r c.args.fragment c.args.part c.args.payload.now e) refl (kept-is c.args.state.now _ c.requires c.keep.ensures)
 
-pub overflow_add-due : goal.overflow_add-due
-overflow_add-due c = omega (arith, c.slice_known-4-1.given 2)
-
 pub returns-then-fragment-due : goal.returns-then-fragment-due
 unfolding record_in
 returns-then-fragment-due c =

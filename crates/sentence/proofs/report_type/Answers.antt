@@ -1,6 +1,7 @@
 -- `report_type` meets its contract. Assumes nothing.
-use borrow.Author.Tests.{eq-eqb, ne_eqb}
+use borrow.Author.Tests.{eq-eqb, ne_eqb, tests}
 use Rattle.sentence.specs.Line.{report_of}
+use borrow.Author.Rules.{rules}
 use Rattle.sentence.proofs.report_type.Goals as goal
 
 pub returns-then-a-ne86 : goal.returns-then-a-ne86
@@ -21,4 +22,4 @@ returns-in-79 c = rw (eq-eqb _ _ c.if-a-ne86.false, eq-eqb _ _ c.if-b-ne68.false
 
 pub returns-in_default : goal.returns-in_default
 unfolding report_of
-returns-in_default c = rw (eq-eqb _ _ c.if-a-ne86.false, eq-eqb _ _ c.if-b-ne68.false, ne_eqb _ _ c.in_default.in_default-own.rest.0.1, ne_eqb _ _ c.in_default.in_default-own.rest.1)
+returns-in_default c = search (tests, rules)

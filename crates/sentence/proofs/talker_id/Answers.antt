@@ -1,5 +1,5 @@
 -- `talker_id` meets its contract: each pair of letters. Assumes nothing.
-use borrow.Author.Tests.{ne_eqb}
+use Rattle.std.proofs.Common.{rules, tests}
 use Rattle.sentence.specs.Line.{talker_of}
 use Rattle.sentence.proofs.talker_id.Goals as goal
 
@@ -37,18 +37,7 @@ returns-in-88 c = rw (c.in-65.is, c.in-88.is)
 
 pub returns-in_default-b : goal.returns-in_default-b
 unfolding talker_of
-returns-in_default-b c =
-    rw (
-      c.in-65.is,
-      ne_eqb _ _ c.in_default-b.in_default-b-own.rest.0.0.0.0.0.0.0.1,
-      ne_eqb _ _ c.in_default-b.in_default-b-own.rest.0.0.0.0.0.0.1,
-      ne_eqb _ _ c.in_default-b.in_default-b-own.rest.0.0.0.0.0.1,
-      ne_eqb _ _ c.in_default-b.in_default-b-own.rest.0.0.0.0.1,
-      ne_eqb _ _ c.in_default-b.in_default-b-own.rest.0.0.0.1,
-      ne_eqb _ _ c.in_default-b.in_default-b-own.rest.0.0.1,
-      ne_eqb _ _ c.in_default-b.in_default-b-own.rest.0.1,
-      ne_eqb _ _ c.in_default-b.in_default-b-own.rest.1,
-    )
+returns-in_default-b c = search (tests, rules)
 
 pub returns-in-83-b-2 : goal.returns-in-83-b-2
 unfolding talker_of
@@ -56,7 +45,7 @@ returns-in-83-b-2 c = rw (c.in-66.is, c.in-83-b-2.is)
 
 pub returns-in_default-b-2 : goal.returns-in_default-b-2
 unfolding talker_of
-returns-in_default-b-2 c = rw (c.in-66.is, ne_eqb _ _ c.in_default-b-2.in_default-b-2-own.rest.1)
+returns-in_default-b-2 c = search (tests, rules)
 
 pub returns-in-65-b : goal.returns-in-65-b
 unfolding talker_of
@@ -64,8 +53,8 @@ returns-in-65-b c = rw (c.in-83.is, c.in-65-b.is)
 
 pub returns-in_default-b-3 : goal.returns-in_default-b-3
 unfolding talker_of
-returns-in_default-b-3 c = rw (c.in-83.is, ne_eqb _ _ c.in_default-b-3.in_default-b-3-own.rest.1)
+returns-in_default-b-3 c = search (tests, rules)
 
 pub returns-in_default : goal.returns-in_default
 unfolding talker_of
-returns-in_default c = rw (ne_eqb _ _ c.in_default.in_default-own.rest.0.0.1, ne_eqb _ _ c.in_default.in_default-own.rest.0.1, ne_eqb _ _ c.in_default.in_default-own.rest.1)
+returns-in_default c = search (tests, rules)
