@@ -1,4 +1,6 @@
 // Demand 3 and the round trip, each as the promise of a function, so that the check shows it by name. There is nothing to run here.
+#![tactic(auto)]
+
 ghost use Rattle.delivery.specs.Calls.{Demand3};
 ghost use Rattle.delivery.specs.RoundTrip.{RoundTrip};
 

@@ -1,5 +1,7 @@
 // What a line of the input is answered with, as a line of JSON: an object for a complete message or for a refused line, and nothing for an unfinished one.
 // The record lies in lent bytes, as crate `record_bytes` has it, and is changed where it lies.
+#![tactic(auto)]
+
 ghost use Rattle.std.specs.Prelude.{◌≡◌, [], List, ◌+◌, ◌-◌, ◌^◌, min, ℕ, take, replicate};
 ghost use Rattle.text_out.specs.Text.{text, put};
 ghost use Rattle.refusal.specs.Refusal.{row_of};

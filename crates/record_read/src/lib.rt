@@ -1,4 +1,6 @@
 // Reading a line over a record that lies in lent bytes: the record is changed where it lies, and what is told goes into lent numbers and texts.
+#![tactic(auto)]
+
 ghost use Rattle.std.specs.Prelude.{◌≡◌, ◌≤◌, length};
 ghost use Rattle.ais.specs.Call.{called_of};
 ghost use Rattle.ais.specs.Parts.{handing_of};

@@ -1,5 +1,7 @@
 // The static library: the reader and the writer for C and Rust. Numbers and lent bytes come in; numbers and bytes go out. Crates `layout_..`,
 // `record_bytes` and `record_read` flatten what an enum holds.
+#![tactic(auto)]
+
 pub mod request;
 
 ghost use Rattle.std.specs.Prelude.{◌≡◌};

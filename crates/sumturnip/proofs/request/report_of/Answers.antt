@@ -1,7 +1,7 @@
 -- `sumturnip::request::report_of` meets its contract. Assumes nothing.
 use native.Mathlib.Omega.{arith}
 use Rattle.sumturnip.specs.Request.{report_by}
-use Rattle.sumturnip.proofs.Laws.{past, no_report_lem}
+use Rattle.sumturnip.proofs.Laws.{no_report_lem}
 use Rattle.sumturnip.proofs.request.report_of.Goals as goal
 
 pub returns-in-1 : goal.returns-in-1

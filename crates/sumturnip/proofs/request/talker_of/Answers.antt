@@ -1,7 +1,7 @@
 -- `sumturnip::request::talker_of` meets its contract. Assumes nothing.
 use native.Mathlib.Omega.{arith}
 use Rattle.sumturnip.specs.Request.{talker_by}
-use Rattle.sumturnip.proofs.Laws.{past, no_talker}
+use Rattle.sumturnip.proofs.Laws.{no_talker}
 use Rattle.sumturnip.proofs.request.talker_of.Goals as goal
 
 pub returns-in-1 : goal.returns-in-1
