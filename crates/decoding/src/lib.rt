@@ -1,5 +1,7 @@
 // Program `decode` but for the system's calls: its turn, in which a line is taken out of the block and answered and what is not of that line is kept;
 // and what the words of its command line ask.
+#![tactic(auto)]
+
 ghost use Rattle.std.specs.Prelude.{◌≡◌};
 ghost use Rattle.decoding.specs.Turn.{answered_of, answered_in, turn_of, turn_in};
 ghost use Rattle.decoding.specs.Asked.{asked_nothing, asked_by, option_by, show_of};
