@@ -1,18 +1,16 @@
 -- A turn from what its calls give back. Assumes nothing.
 use Prim.Native.Nat.{ℕ}
-use mathlib.Core.Path.{◌≡◌, refl, sym, ap, ◌∙◌}
+use mathlib.Core.Path.{◌≡◌, ap, ◌∙◌}
 use mathlib.Core.Bool.{Bool, false}
-use mathlib.Core.List.{List, [], ◌∷◌, ◌++◌}
+use mathlib.Core.List.{List, [], ◌∷◌}
 use Rattle.text_out.specs.Text.{Text, text, put}
 use Rattle.text_out.proofs.Laws.{put_then}
 use Rattle.reassembly.specs.declared.Record.{Record}
 use Rattle.stream.specs.declared.Input.{Input}
-use Rattle.stream.specs.declared.Next.{Next}
 use Rattle.stream.specs.declared.Taken.{Taken}
 use Rattle.stream.specs.Next.{taken_with, comes_of}
 use Rattle.trace_commands.specs.declared.Answered.{Answered}
 use Rattle.trace_protocol.specs.Said.{said_of, kept_of}
-use Rattle.trace_turn.specs.declared.Turned.{Turned}
 use Rattle.trace_turn.specs.Turn.{Replied, replied_in, command_of, replied_of, turn_by, turn_in, turn_of}
 
 -- what is said of a command, and an LF after it

@@ -1,4 +1,6 @@
 // Program `trace` but for the system's calls: its turn, in which a command line is taken out of the block and answered with one line.
+#![tactic(auto)]
+
 ghost use Rattle.std.specs.Prelude.{◌≡◌, take};
 ghost use Rattle.text_out.specs.Text.{text, put};
 ghost use Rattle.trace_turn.specs.Turn.{replied_in, command_of, long_text, replied_of, turn_in, turn_of};
