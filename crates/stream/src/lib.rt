@@ -108,7 +108,7 @@ fn next_line(input: Input, most: u16, strip: bool, block: &[u8], line: &mut [u8]
     Taken {
         input: Input {
             held: c.state.len,
-            from: next_from(&event, n),
+            from: next_from(event, n),
             filled: n,
         },
         next: next_by(event),
@@ -139,12 +139,12 @@ fn next_by(event: Event) -> Next
 }
 
 // The place to go on from after an event, in a block of so many bytes.
-fn next_from(event: &Event, all: usize) -> usize
-    ensures { result ≡ next_of event.now all }
+fn next_from(event: Event, all: usize) -> usize
+    ensures { result ≡ next_of event all }
 {
     match event {
-        Event::Line(_, next) => *next,
-        Event::TooLong(next) => *next,
+        Event::Line(_, next) => next,
+        Event::TooLong(next) => next,
         Event::Held => all,
         Event::Room => all,
     }
