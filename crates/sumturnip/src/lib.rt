@@ -1,5 +1,5 @@
-// The static library: the reader and the writer for C and Rust. Numbers and lent bytes come in; numbers and bytes go out. Crates `layout_..`,
-// `record_bytes` and `record_read` flatten what an enum holds.
+// The calls of the static library: the reader and the writer for C and Rust. Numbers and lent bytes come in; numbers and bytes go out. Crates `layout_..`,
+// `record_bytes` and `record_read` flatten what an enum holds. Crate `sumturnip_c` exports them.
 #![tactic(auto)]
 
 pub mod request;
@@ -10,16 +10,14 @@ ghost use Rattle.record_read.specs.Read.{read_in, read_of};
 ghost use Rattle.sumturnip.specs.Calls.{version, freshened_in, freshened_of, fills_in, unarms_of, writes_of};
 
 // The library's version, which a caller holds against that of the header.
-#[unsafe(no_mangle)]
-pub extern "C" fn sumturnip_version() -> u32
+pub fn sumturnip_version() -> u32
     ensures { result ≡ version }
 {
     200
 }
 
 // A fresh record: 0, or 12 where the record's bytes are too few.
-#[unsafe(no_mangle)]
-pub extern "C" fn sumturnip_fresh(lent: &mut [u8]) -> u32
+pub fn sumturnip_fresh(lent: &mut [u8]) -> u32
     ensures { freshened_in result lent.new ≡ freshened_of lent.old }
 {
     if lent.len() < 400 {
@@ -30,8 +28,7 @@ pub extern "C" fn sumturnip_fresh(lent: &mut [u8]) -> u32
 }
 
 // Reads one line: 0 where a message is complete, 100 where more is to come, else the refusal's number.
-#[unsafe(no_mangle)]
-pub extern "C" fn sumturnip_read(
+pub fn sumturnip_read(
     state: &mut [u8],
     line: &[u8],
     decode: bool,
@@ -47,13 +44,7 @@ pub extern "C" fn sumturnip_read(
 }
 
 // Unarmoring alone: 0 with the count of bytes in the answer's first number, else the refusal's number with its value there.
-#[unsafe(no_mangle)]
-pub extern "C" fn sumturnip_unarmor(
-    payload: &[u8],
-    fill: usize,
-    out: &mut [u8],
-    answer: &mut [u64],
-) -> u32
+pub fn sumturnip_unarmor(payload: &[u8], fill: usize, out: &mut [u8], answer: &mut [u64]) -> u32
     ensures { fills_in result out.new answer.new ≡ unarms_of payload.now fill out.old answer.old }
 {
     if answer.len() < 1 {
@@ -66,8 +57,7 @@ pub extern "C" fn sumturnip_unarmor(
 
 // The writer: 0 with the count of bytes in the answer's first number, else the refusal's number. Talker, report type and channel (whether there is one, and its
 // byte) have the numbers that `sumturnip_read` tells them by; any other number is refusal 13.
-#[unsafe(no_mangle)]
-pub extern "C" fn sumturnip_write(
+pub fn sumturnip_write(
     count: usize,
     talker: u64,
     report: u64,
