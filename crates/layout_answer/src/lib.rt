@@ -1,4 +1,6 @@
 // What a call answers: its code, 50 numbers (the values of its outcome, its sentence, its message) and 80 bytes of text.
+#![tactic(auto)]
+
 pub mod sender;
 pub mod whole;
 
