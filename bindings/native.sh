@@ -34,14 +34,16 @@ object() {
         "$clang" -c -x ir "$native/$crate.ll" -o "$native/$crate.o" -fPIC -O3 -ffunction-sections -fdata-sections -mllvm -trap-unreachable -mllvm -no-trap-after-noreturn
 }
 
-# archive CRATE: the folder that has libCRATE.a for this processor, built where it is missing or older than a source.
+# archive CRATE: the folder that has libCRATE.a for this processor, built where it is missing or older than a source. Its calls are exported by crate CRATE_c.
 archive() {
-    local folder=$native
+    local folder=$native built=$root/crates/$1_c/out/lib$1_c.a
     if [ "$(uname -m)" = x86_64 ]; then
-        folder=$root/crates/$1/out
-        is_built "$folder/lib$1.a" || (cd "$root/crates/$1" && rt lib) >&2 || return 1
+        folder=$root/target/staticlib
+        is_built "$built" || (cd "$root/crates/$1_c" && rt lib) >&2 || return 1
+        mkdir -p "$folder"
+        cp "$built" "$folder/lib$1.a"
     else
-        is_built "$folder/lib$1.a" || { object "$1" staticlib && rm -f "$folder/lib$1.a" && ar rcs "$folder/lib$1.a" "$folder/$1.o"; } >&2 || return 1
+        is_built "$folder/lib$1.a" || { object "$1_c" lib && rm -f "$folder/lib$1.a" && ar rcs "$folder/lib$1.a" "$folder/$1_c.o"; } >&2 || return 1
     fi
     printf '%s\n' "$folder"
 }
