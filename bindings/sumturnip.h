@@ -1,4 +1,4 @@
-/* The reader and the writer for C: the functions of the static library libsumturnip.a, which `rt lib` in crates/sumturnip makes in its out/ for x86-64.
+/* The reader and the writer for C: the functions of the static library libsumturnip.a, which crate sumturnip_c makes for x86-64 (`./ais install` and bindings/test put it down).
  * Each call returns, reads and writes only what is lent to it, and answers as crates/sumturnip/specs/Calls.antt says.
  * A slice is a pointer, never null, and then its length. What is written must not overlap anything else that is lent to the same call.
  * What is proved is the library's answer to such a call; that a caller keeps to this page is not checked.

@@ -58,7 +58,7 @@ driver() { "$room/target/release/driver"; }
 # The generator; the published lines are damaged too where they are at hand.
 generate() { SAMPLE=${SAMPLE-$root/../shared/vectors/sample.aivdm} "$room/target/release/generate" "$@"; }
 
-# Builds our program where it is missing or older than a source. One that is built, but fails its stored run, is compared all the same.
+# Builds our program where it is missing or older than a source.
 build_trace() {
     trace_is_built || (cd "$root/crates/trace" && rt run -- --help) >&2 </dev/null || trace_is_built || { say "trace is not built"; exit 2; }
 }

@@ -1,6 +1,6 @@
 /* Reads AIS lines from standard input and prints each position on a line; on standard error, why a line is refused.
- * Build and run, with the library in crates/sumturnip/out:
- *   cc -o positions bindings/c/example.c crates/sumturnip/out/libsumturnip.a && ./positions < bindings/example.nmea */
+ * Build and run, with the library in target/staticlib, where bindings/test puts it:
+ *   cc -o positions bindings/c/example.c target/staticlib/libsumturnip.a && ./positions < bindings/example.nmea */
 #define _POSIX_C_SOURCE 200809L
 #include "../sumturnip.h"
 #include <stdio.h>

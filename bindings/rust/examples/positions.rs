@@ -1,5 +1,5 @@
 //! Reads AIS lines from standard input and prints each position on a line; on standard error, why a line is refused.
-//! Run, with the library in crates/sumturnip/out: `cargo run --example positions < ../example.nmea`
+//! Run, with the library in target/staticlib, where bindings/test puts it: `cargo run --example positions < ../example.nmea`
 
 use std::io::{self, BufRead};
 use sumturnip::{Message, Outcome, PositionReport, Reader};

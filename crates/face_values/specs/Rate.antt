@@ -1,5 +1,5 @@
 -- A rate of turn from the bit pattern of its single-precision number (IEEE 754), with nine digits after the point: enough that every rate of a report
--- reads back to the same number (json/proofs/ReadsBack).
+-- reads back to the same number (json_told/proofs/ReadsBack).
 use Rattle.std.specs.Prelude.{ℕ, ◌+◌, ◌-◌, ◌*◌, ◌/◌, ◌%◌, ◌^◌, List, ◌∷◌, ◌++◌, ltb}
 use Rattle.refusal.specs.Words.{pick}
 use Rattle.text_out.specs.Text.{ascii}

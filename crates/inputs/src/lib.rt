@@ -254,7 +254,7 @@ fn next_input(rt: &HostRuntime, program: &[u8], number: u64, source: Source, use
         return begun(source.from, place, used, Way::Ended);
     }
     drop(source);
-    if place < arg_count(rt) {
+    if place < usize::MAX {
         return input_from(rt, program, number, place + 1, used);
     }
     begun(Origin::Closed, place, used, Way::Ended)
@@ -298,9 +298,11 @@ fn begun(from: Origin, place: usize, used: usize, way: Way) -> Gone
 
 // The place of the first word from a place on that names an input, or 0.
 fn named_from(rt: &HostRuntime, from: usize) -> usize {
-    let count = arg_count(rt);
     let mut i = from;
-    while i < count {
+    while i < usize::MAX {
+        if is_past_end(rt, i) {
+            return 0;
+        }
         if is_named(rt, i) {
             return i;
         }

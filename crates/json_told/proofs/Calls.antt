@@ -1,4 +1,4 @@
--- For every record and every line: what a call is answered with, in JSON, is what json/specs/Object says of what the call told. Assumes nothing.
+-- For every record and every line: what a call is answered with, in JSON, is what json_told/specs/Object says of what the call told. Assumes nothing.
 use Prim.Native.Nat.{ℕ}
 use native.Mathlib.Omega.{arith}
 use mathlib.Core.Path.{◌≡◌, refl, ap, ◌∙◌}

@@ -1,4 +1,4 @@
--- The rows that tell a number in words say what json/specs/Object says of it. Assumes nothing.
+-- The rows that tell a number in words say what json_told/specs/Object says of it. Assumes nothing.
 use Prim.Native.Nat.{ℕ}
 use mathlib.Core.Path.{◌≡◌, refl, ap}
 use mathlib.Core.List.{List, [], ◌∷◌}

@@ -1,4 +1,4 @@
--- What the table of face_json says of a refused line is what json/specs/Object says of its number, its values and what is told beside them. Assumes nothing.
+-- What the table of face_json says of a refused line is what json_told/specs/Object says of its number, its values and what is told beside them. Assumes nothing.
 use Prim.Native.Nat.{ℕ, ◌≤◌, min}
 use native.Mathlib.Omega.{arith}
 use mathlib.Core.Path.{◌≡◌, refl, ap, ◌∙◌}

@@ -1,4 +1,4 @@
--- What the tables of face_json say of a message is what json/specs/Object says of its fields, member by member. Assumes nothing.
+-- What the tables of face_json say of a message is what json_told/specs/Object says of its fields, member by member. Assumes nothing.
 use Prim.Native.Nat.{ℕ, ◌+◌}
 use native.Mathlib.Omega.{arith}
 use mathlib.Core.Logic.{◌⊎◌, inl, inr}
