@@ -4,11 +4,11 @@ use mathlib.Core.Path.{◌≡◌, refl}
 use mathlib.Core.Bool.{Bool, true, false}
 use mathlib.Core.List.{List, [], ◌∷◌, ◌++◌}
 use Prim.Native.Nat.{ℕ}
+use Rattle.std.specs.Prelude.{Ok, Err}
 use Rattle.refusal.specs.Words.{pick, taken, refused, Check, checked}
 use Rattle.refusal.specs.Refusal.{told}
 use Rattle.refusal.proofs.Unique.{the_by_number}
-use Rattle.sentence.specs.Line.{payload_of}
-use Rattle.sentence.specs.declared.Parsed.{Parsed}
+use Rattle.sentence.specs.Line.{payload_of, Parsed}
 use Rattle.reassembly.specs.Record.{checks_by, onto, join_checks}
 use Rattle.reassembly.specs.declared.Part.{Part}
 use Rattle.reassembly.specs.declared.Record.{Record}
@@ -37,18 +37,18 @@ join_rows Part.Last o f payload = (refl, (refl, (refl, tt)))
 join_rows Part.Alone o f payload = (refl, tt)
 
 pub line-rows : (line : List ℕ) (room bit_room : ℕ) (p : Parsed) → Rows (line_checks line room bit_room p)
-line-rows line room bit_room (Parsed.Sentence s) = (refl, (refl, (refl, (refl, tt))))
-line-rows line room bit_room (Parsed.Bad place) = (refl, (refl, (refl, tt)))
+line-rows line room bit_room (Ok s) = (refl, (refl, (refl, (refl, tt))))
+line-rows line room bit_room (Err broken) = (refl, (refl, (refl, tt)))
 
 pub sentence-rows : (r : Record) (line : List ℕ) (decode : Decode) (p : Parsed) → Rows (sentence_checks r line decode p)
-sentence-rows r line decode (Parsed.Sentence s) =
+sentence-rows r line decode (Ok s) =
     let own = payload_of line s in
     rows_both (join_checks r (fragment_of s) own) _ (join_rows (part_of_line s) (onto (part_of_line s) r (fragment_of s)) (fragment_of s) own) (go (decodes decode s))
   where
     go : (t : Bool) → Rows (pick t (message_checks (handed_of r s (payload_of line s)) s.fill_bit_count) [])
     go true = message-rows (handed_of r s (payload_of line s)) s.fill_bit_count
     go false = tt
-sentence-rows r line decode (Parsed.Bad place) = tt
+sentence-rows r line decode (Err broken) = tt
 
 -- so what such checks tell is read back
 pub rows_told : (cs : List Check) (p : Progress) → Rows cs → outcome_in (outcome_by (checked cs (taken p))) ≡ checked cs (taken p)

@@ -1,4 +1,5 @@
 -- The laws of armour. Assumes nothing.
+use Rattle.std.proofs.Common.{None}
 use mathlib.Core.Logic.{⊎_elim}
 use mathlib.Core.Path.{◌≡◌, refl, sym, ap, ◌∙◌}
 use mathlib.Core.Bool.{Bool, true, false, ◌&&◌, ◌||◌}
@@ -17,7 +18,6 @@ use borrow.Author.Tests.{lt-ltb, le-ltb, le-leb, lt-leb}
 use Rattle.refusal.specs.Words.{pick, within}
 use Rattle.refusal.proofs.Within.{in_range, below_range, above_range}
 use Rattle.armour.specs.Armour.{meaning, the_true_type, letter, first_bad, stream, size, unarmored}
-use Rattle.armour.specs.declared.TrueType.{TrueType}
 use Rattle.parsers.specs.Bits.{val, bit_at, pack}
 use Rattle.parsers.proofs.Laws.{lt_or_le, length-pack, pack-set, bit_lt, cut_lt, val-digit, cut_gone, cut-whole, cut-last}
 
@@ -35,7 +35,7 @@ module _ (b : ℕ) where
   meaning_none p q = rw (p, q)
 
 -- an empty payload has no true type
-pub no_type : (payload : List ℕ) → length payload ≡ 0 → TrueType.Absent ≡ the_true_type payload
+pub no_type : (payload : List ℕ) → length payload ≡ 0 → None ≡ the_true_type payload
 unfolding meaning within
 no_type [] e = refl
 no_type (b ∷ bs) e = absurd (omega arith)

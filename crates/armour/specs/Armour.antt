@@ -1,8 +1,7 @@
 -- Payload armour, from the AIVDM description, 'AIVDM/AIVDO Payload Armoring': "Each character represents six bits of data".
-use Rattle.std.specs.Prelude.{List, [], ◌∷◌, map, ℕ, suc, ◌+◌, ◌-◌, ◌*◌, ◌/◌, ltb, length, get_or}
+use Rattle.std.specs.Prelude.{Option, Some, None, List, [], ◌∷◌, map, ℕ, suc, ◌+◌, ◌-◌, ◌*◌, ◌/◌, ltb, length, get_or}
 use Rattle.refusal.specs.Words.{pick, within}
 use Rattle.parsers.specs.Bits.{bit_at, cut, pack}
-use Rattle.armour.specs.declared.TrueType.{TrueType}
 
 -- its table: `0` to `W` (48 to 87) are 0 to 39, and the backtick to `w` (96 to 119) are 40 to 63; "the intermediate range "X" (88) to "_" (95) is not used".
 -- 64, which is no six bits, stands for every byte that the table has not
@@ -10,8 +9,8 @@ unfoldable pub meaning : ℕ → ℕ
 meaning b = pick (within 48 87 b) (b - 48) (pick (within 96 119 b) (b - 56) 64)
 
 -- "The true type is the six-bit value of the first byte of the payload handed out, absent if that byte is not armour" (document 01, 'Line rules')
-abbrev pub the_true_type : List ℕ → TrueType
-the_true_type payload = let v = meaning (get_or payload 0 0) in pick (ltb v 64) (TrueType.Of v) TrueType.Absent
+abbrev pub the_true_type : List ℕ → Option ℕ
+the_true_type payload = let v = meaning (get_or payload 0 0) in pick (ltb v 64) (Some v) None
 
 -- the way back: the character of a six-bit value
 abbrev pub letter : ℕ → ℕ

@@ -1,15 +1,14 @@
 -- What unarmoring alone answers, and what it leaves in the output.
-use Rattle.std.specs.Prelude.{◌≡◌, Bool, ◌&&◌, ◌||◌, List, [], ◌∷◌, ℕ, ltb, eqb, length}
+use Rattle.std.specs.Prelude.{◌≡◌, Result, Ok, Err, Bool, ◌&&◌, ◌||◌, List, [], ◌∷◌, ℕ, ltb, eqb, length}
 use Rattle.refusal.specs.Words.{Told, taken, Check, check, checked, left}
 use Rattle.refusal.specs.Refusal.{told}
 use Rattle.armour.specs.Armour.{first_bad, size, unarmored}
-use Rattle.armour.specs.declared.Unarmored.{Unarmored}
-use Rattle.armour.specs.declared.Unarmored.TheVariants.{Bytes, Refused}
+use Rattle.refusal.specs.declared.Refusal.{Refusal}
 
 -- the answer on paper: the output's length, or document 01's number and values
-abbrev pub unarmored_in : Unarmored → Told ℕ
-unarmored_in (Bytes n) = taken n
-unarmored_in (Refused r) = told r
+abbrev pub unarmored_in : Result ℕ Refusal → Told ℕ
+unarmored_in (Ok n) = taken n
+unarmored_in (Err r) = told r
 
 -- 7: "fill over 5, or fill with empty data"
 unfoldable pub bad_fill : List ℕ → ℕ → Bool
@@ -40,6 +39,6 @@ unfoldable pub answer_of : List ℕ → ℕ → ℕ → Told ℕ
 answer_of s fill room = checked (checks_of s fill room) (taken (size (length s)))
 
 -- the promise: the answer and every lent byte
-pub record Unarmors (s : List ℕ) (fill : ℕ) (out : List ℕ) (r : Unarmored) (out' : List ℕ) : Type 0 where
+pub record Unarmors (s : List ℕ) (fill : ℕ) (out : List ℕ) (r : Result ℕ Refusal) (out' : List ℕ) : Type 0 where
   pub answers : unarmored_in r ≡ answer_of s fill (length out)
   pub leaves : out' ≡ left (answer_of s fill (length out)) (unarmored s fill) out

@@ -2,8 +2,10 @@
 #![tactic(auto)]
 
 use decoding::Asked;
-use inputs::{Gone, Source, Way};
+use inputs::{Gone, Source, Status, Way};
 use json_told::{Kept, Show};
+use stream::Teller;
+use text_out::Output;
 
 const PROGRAM: [u8; 6] = *b"decode";
 
@@ -26,14 +28,11 @@ fn answer_one(
     out: &mut [u8],
     tally: &mut [u64],
 ) -> Run {
-    let source = s.source;
-    let kept = s.kept;
-    let way = s.way;
-    let ended = inputs::is_last(way);
+    let ended = inputs::is_last(s.way);
     let t = decoding::turn(
-        source.input,
+        s.source.input,
         ended,
-        kept,
+        s.kept,
         show,
         state,
         block,
@@ -42,36 +41,30 @@ fn answer_one(
         tally,
     );
     let told = t.kept;
-    let next = t.next;
-    let rest = inputs::taken(source, t.input);
-    let gone = inputs::go_on(
+    let teller = Teller {
         rt,
-        &PROGRAM,
-        told.number,
-        rest,
-        ended,
-        next,
-        told.used,
-        block,
-        out,
-    );
+        program: &PROGRAM,
+        number: told.number,
+    };
+    let source = inputs::taken(s.source, t.input);
+    let gone = inputs::go_on(&teller, source, ended, t.next, told.used, block, out);
     after(gone, told)
 }
 
 // A run after what is done between two lines.
 fn after(gone: Gone, told: Kept) -> Run {
-    let source = gone.source;
-    let way = gone.way;
-    let mut kept = told;
-    kept.used = gone.used;
     Run {
-        source: source,
-        kept: kept,
-        way: way,
+        source: gone.source,
+        kept: Kept {
+            number: told.number,
+            used: gone.used,
+        },
+        way: gone.way,
     }
 }
 
-// All lines. Nothing says that an input ends, so the loop counts its rounds down, from a number that no run uses up.
+// All lines. Nothing says that an input ends, so the loop has a number of rounds that no run uses up.
+// `trace` has such a loop over its own run: one function for both would take a closure over five lent buffers, and read no plainer.
 fn answer_all(
     rt: &HostRuntime,
     s: Run,
@@ -83,53 +76,61 @@ fn answer_all(
     tally: &mut [u64],
 ) -> Run {
     let mut now = s;
-    let mut rounds = u64::MAX;
-    while rounds > 0 {
-        let way = now.way;
-        if !inputs::is_on(way) {
+    for _ in 0..u64::MAX {
+        if !inputs::is_on(now.way) {
             return now;
         }
         now = answer_one(rt, now, show, state, block, line, out, tally);
-        rounds -= 1;
     }
     now
 }
 
-// The inputs that are asked for, and what is said at their end. Answers the status: 0 where all went well, 1 where a call failed.
-fn answer_inputs(rt: &HostRuntime, asked: Asked) -> u8 {
+// The inputs that are asked for, and what is said at their end. Answers the status.
+fn answer_inputs(rt: &HostRuntime, asked: Asked) -> Status {
     let mut out = [0u8; 65536];
     let mut block = [0u8; 65536];
     let mut state = [0u8; 400];
     let mut line = [0u8; 1024];
     let mut tally = [0u64; 256];
     let none = Kept { number: 0, used: 0 };
-    let begun = after(inputs::first_input(rt, &PROGRAM, asked.inputs), none);
+    let begun = after(inputs::first_input(&at_start(rt), asked.inputs), none);
     let show = decoding::show_of(asked.quiet);
     let end = answer_all(
         rt, begun, show, &mut state, &mut block, &mut line, &mut out, &mut tally,
     );
-    let kept = end.kept;
-    let way = end.way;
-    let status = inputs::finish(rt, &PROGRAM, kept.number, way, &out, kept.used);
+    let teller = Teller {
+        rt,
+        program: &PROGRAM,
+        number: end.kept.number,
+    };
+    let status = inputs::finish(&teller, end.way, &out, end.kept.used);
     say_end(rt, &state, asked.summary, &tally);
     status
 }
 
+// Who tells what fails before the first line.
+fn at_start(rt: &HostRuntime) -> Teller<'_> {
+    Teller {
+        rt,
+        program: &PROGRAM,
+        number: 0,
+    }
+}
+
 // What is said on standard error at the end: a message that is unfinished, and counts where they are asked.
 fn say_end(rt: &HostRuntime, state: &[u8], counts: bool, tally: &[u64]) {
-    let mut words = [0u8; 4096];
-    let n = summary::put_end(&mut words, 0, state, counts, tally);
-    stream::say(rt, &words, n);
+    let mut buffer = [0u8; 4096];
+    let mut words = Output::new(&mut buffer, 0);
+    summary::put_end(&mut words, state, counts, tally);
+    let end = words.at;
+    stream::say(rt, words.buffer, end);
 }
 
 // What the words of the command line ask.
 fn ask(rt: &HostRuntime) -> Asked {
-    let count = inputs::arg_count(rt);
     let mut asked = decoding::nothing_asked();
-    let mut i = 1;
-    while i < count {
+    for i in 1..inputs::arg_count(rt) {
         asked = ask_by(rt, asked, i);
-        i += 1;
     }
     asked
 }
@@ -137,27 +138,26 @@ fn ask(rt: &HostRuntime) -> Asked {
 // One word more.
 fn ask_by(rt: &HostRuntime, asked: Asked, i: usize) -> Asked {
     let mut word = [0u8; 4096];
-    let n = inputs::arg(rt, i, &mut word);
-    decoding::asked_by(asked, &word[..n], i)
+    decoding::asked_by(asked, inputs::arg(rt, i, &mut word), i)
 }
 
 // What is asked, done. Answers the status.
-fn answer(rt: &HostRuntime, asked: Asked) -> u8 {
+fn answer(rt: &HostRuntime, asked: Asked) -> Status {
     if asked.help {
         return help(rt);
     }
-    if asked.unknown > 0 {
-        inputs::say_unknown(rt, &PROGRAM, asked.unknown);
-        return 2;
+    if let Some(i) = asked.unknown {
+        inputs::say_unknown(&at_start(rt), i);
+        return Status::Wrong;
     }
-    if !inputs::are_readable(rt, &PROGRAM) {
-        return 2;
+    if !inputs::are_readable(&at_start(rt)) {
+        return Status::Wrong;
     }
     answer_inputs(rt, asked)
 }
 
 // The usage. Answers the status.
-fn help(rt: &HostRuntime) -> u8 {
+fn help(rt: &HostRuntime) -> Status {
     inputs::put_usage(
         rt,
         b"usage: decode [--quiet] [--summary] [FILE..]\n\

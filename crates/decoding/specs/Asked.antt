@@ -1,5 +1,6 @@
 -- What the words of program `decode`'s command line ask.
-use Rattle.std.specs.Prelude.{ℕ, Bool, true, false, List, eqb}
+use Rattle.std.specs.Prelude.{ℕ, Bool, true, false, List, Option, Some, None}
+use Rattle.std.specs.Option.{option_or}
 use Rattle.refusal.specs.Words.{pick}
 use Rattle.lines.specs.Same.{same_as}
 use Rattle.text_out.specs.Text.{ascii}
@@ -8,20 +9,20 @@ use Rattle.inputs.specs.Words.{word_of}
 use Rattle.json_told.specs.declared.Show.{Show}
 use Rattle.decoding.specs.declared.Asked.{Asked}
 
-abbrev pub asks : Bool → Bool → Bool → Bool → Bool → ℕ → Asked
+abbrev pub asks : Bool → Bool → Bool → Bool → Bool → Option ℕ → Asked
 asks help status quiet summary inputs unknown =
     record { help = help; status = status; quiet = quiet; summary = summary; inputs = inputs; unknown = unknown }
 
 -- no words
 abbrev pub asked_nothing : Asked
-asked_nothing = asks false false false false false 0
+asked_nothing = asks false false false false false None
 
 -- an option: the first that is unknown is kept by its place
 unfoldable pub option_by : Asked → List ℕ → ℕ → Asked
 option_by a word i =
     pick (same_as word (ascii "--quiet")) (asks a.help a.status true a.summary a.inputs a.unknown)
     (pick (same_as word (ascii "--summary")) (asks a.help a.status a.quiet true a.inputs a.unknown)
-    (asks a.help a.status a.quiet a.summary a.inputs (pick (eqb a.unknown 0) i a.unknown)))
+    (asks a.help a.status a.quiet a.summary a.inputs (option_or a.unknown (Some i))))
 
 -- a word at a place of the command line
 abbrev pub asked_as : Word → Asked → List ℕ → ℕ → Asked

@@ -37,12 +37,10 @@ pub fn turn(
         ≡ turn_of show input ended kept state.old block.now line.old out.old tally.old }
 {
     let t = stream::take_line(input, ended, MOST, true, block, line);
-    let rest = t.input;
-    let next = t.next;
     Turned {
-        input: rest,
-        kept: answer_next(kept, next, show, state, line, out, tally),
-        next: next,
+        input: t.input,
+        kept: answer_next(kept, t.next, show, state, line, out, tally),
+        next: t.next,
     }
 }
 
@@ -68,7 +66,7 @@ fn answer_next(
 }
 
 // What the words of the command line ask: the usage, that the launcher is told the status, no refusals, counts at the end; whether they name an input,
-// and the place of the first that is no option of ours, or 0.
+// and the place of the first that is no option of ours.
 #[derive(Clone, Copy)]
 pub struct Asked {
     pub help: bool,
@@ -76,7 +74,7 @@ pub struct Asked {
     pub quiet: bool,
     pub summary: bool,
     pub inputs: bool,
-    pub unknown: usize,
+    pub unknown: Option<usize>,
 }
 
 // No words: nothing is asked.
@@ -89,7 +87,7 @@ pub fn nothing_asked() -> Asked
         quiet: false,
         summary: false,
         inputs: false,
-        unknown: 0,
+        unknown: None,
     }
 }
 
@@ -112,21 +110,19 @@ fn asked_by_option(asked: Asked, word: &[u8], i: usize) -> Asked
     ensures { result ≡ option_by asked word.now i }
 {
     let mut a = asked;
-    if lines::texts::same(word, b"--quiet") {
+    if word == b"--quiet".as_slice() {
         a.quiet = true;
         return a;
     }
-    if lines::texts::same(word, b"--summary") {
+    if word == b"--summary".as_slice() {
         a.summary = true;
         return a;
     }
-    if a.unknown == 0 {
-        a.unknown = i;
-    }
+    a.unknown = a.unknown.or(Some(i));
     a
 }
 
-// What is written of refused lines.
+// What is written of refused lines. No `From<bool>`, since `Show::from(true)` would not say which of the two is meant.
 pub fn show_of(quiet: bool) -> Show
     ensures { result ≡ show_of quiet }
 {

@@ -5,11 +5,11 @@ use mathlib.Core.Path.{◌≡◌, refl, sym, ap, ap₂, ◌∙◌}
 use mathlib.Core.List.{List}
 use lib.ListN.{length, take, drop, replicate}
 use lib.Seq.{take-append_seam}
+use Rattle.std.specs.Prelude.{Some}
 use Rattle.refusal.specs.Words.{Told, taken, over}
 use Rattle.refusal.specs.Refusal.{told, row_of}
 use Rattle.refusal.specs.declared.Refusal.{Refusal}
 use Rattle.sentence.specs.Written.{Writable}
-use Rattle.sentence.specs.declared.Number.{Number}
 use Rattle.sentence.proofs.ReadBack.{ended_by, read_back, payload-back}
 use Rattle.reassembly.specs.Record.{Join, empty_as, holding, fresh_record, emptied_of, join_of}
 use Rattle.reassembly.specs.declared.Record.{Record}
@@ -103,10 +103,10 @@ module _ (given : ℕ → Beside) (p : ℕ) (r : Record) (m : Message) (s : Send
 -- what is seen of a last line
 module _ (m : Message) (i : ℕ) where
   last_seen : i ≡ lines_in m
-      → gives (complete (take (length m.payload) (over m.payload (replicate 384 0))) (said m i).fill_bit_count) (empty_as (Number.Of m.number) i)
+      → gives (complete (take (length m.payload) (over m.payload (replicate 384 0))) (said m i).fill_bit_count) (empty_as (Some m.number) i)
       ≡ gives (complete m.payload m.fill) (held_of m i)
   last_seen e =
-      handed_read m.payload (replicate 384 0) (said m i).fill_bit_count (empty_as (Number.Of m.number) i)
+      handed_read m.payload (replicate 384 0) (said m i).fill_bit_count (empty_as (Some m.number) i)
       ∙ ap₂ (λ (fill : ℕ) (r : Record). gives (complete m.payload fill) r) (last-fill m i e) (sym (held_last m i e))
 
 pub reads : (given : ℕ → Beside) → Reader (on_call given) fresh_record
@@ -120,7 +120,7 @@ reads given = record {
       (join_next_lem m s (omega arith) j h l);
   last = λ m s p j h e.
       to_last given p (held_of m j) m s (j + 1) (omega arith) (omega arith) (fragment m (j + 1)) (of_several m (j + 1) (omega arith))
-      (holding (Number.Of m.number) (j + 1) m.payload) (join_last m s (omega arith) j h e)
+      (holding (Some m.number) (j + 1) m.payload) (join_last m s (omega arith) j h e)
       ∙ last_seen m (j + 1) e;
   out_of_order = λ m s p j i h l d.
       to_refused given p (held_of m j) m s i (omega arith) l (fragment m i) (of_several m i (omega arith)) (held_of m j) Refusal.FragmentNumber

@@ -10,7 +10,7 @@ use mathlib.Core.List.{List, [], ◌∷◌, ◌++◌, Memᴰ}
 use lib.ListN.{get_elem?}
 use lib.Seq.{append_snoc}
 use borrow.Author.Tests.{lt-ltb, ne_eqb}
-use Rattle.sentence.specs.declared.Number.{Number}
+use Rattle.std.specs.Prelude.{Some}
 use Rattle.writer.specs.Message.{Message, lines_in}
 use Rattle.delivery.specs.Delivery.{Arrival, Answer, unfinished, complete, AllOurs, Ours}
 use Rattle.delivery.specs.Delivery.{number_on, first_of_several, always, NoMixing, Delivery, DeliveryAlone}
@@ -112,7 +112,7 @@ module _ {S : Type 0} {does : ℕ → S → Arrival → Step S} {fresh : S} (rea
 
     -- one arrival while lines i and on are to come and j lines are held
     one : (p i j : ℕ) (a : Arrival) (rest : List Arrival) (e : ℕ) → Ours sent a
-        → (a.line ≢ 1 → number_on a ≡ Number.Of m.number → a.of ≡ m)
+        → (a.line ≢ 1 → number_on a ≡ Some m.number → a.of ≡ m)
         → 1 ≤ j → j < n → i ≤ j + 1 → Coming i (a ∷ rest) e
         → ((i' j' : ℕ) → 1 ≤ j' → j' < n → i' ≤ j' + 1 → Coming i' rest (e - 1) → Given (suc p) (reader.held m j') rest (e - 1))
         → Given p (reader.held m j) (a ∷ rest) e
@@ -157,7 +157,7 @@ module _ {S : Type 0} {does : ℕ → S → Arrival → Step S} {fresh : S} (rea
     on before [] p i j e f w u z o h l d c = absurd (none-ne-some _ (c.comes n c.in_range (omega arith)))
     on before (a ∷ rest) p i j e f w u z o h l d c =
         one p i j a rest e (w a (Memᴰ.head refl))
-        (λ b q. u before rest a f refl z b (q ∙ sym (number_several f.of f.line (rw o several) ∙ ap (λ (x : Message). Number.Of x.number) o))
+        (λ b q. u before rest a f refl z b (q ∙ sym (number_several f.of f.line (rw o several) ∙ ap (λ (x : Message). Some x.number) o))
         ∙ o) h l d c
         (λ i' j' h' l' d' c'.
         on (before ++ a ∷ []) rest (suc p) i' j' (e - 1) f (later_ours sent a rest w) (rw append_snoc u)

@@ -8,7 +8,7 @@ use mathlib.Core.Bool.{false}
 use mathlib.Core.List.{List, Memᴰ}
 use lib.Dec.{ltb}
 use borrow.Author.Tests.{eq-eqb, ltb-false}
-use Rattle.sentence.specs.declared.Number.{Number}
+use Rattle.std.specs.Prelude.{Some}
 use Rattle.writer.specs.Message.{Message, Sendable, lines_in}
 use Rattle.delivery.specs.Delivery.{Arrival, Answer, refused, unfinished, complete, Ours, WasSent, number_on, first_of_several}
 use Rattle.delivery.proofs.Lines.{number_several}
@@ -67,7 +67,7 @@ module _ {S : Type 0} {does : ℕ → S → Arrival → Step S} {fresh : S} (rea
       stays : (a.of ≡ m → a.line ≡ j + 1 → ⊥) → Idle p (reader.held m j) a → Effect a
 
     module _ (a : Arrival) (w : Ours sent a) (f : first_of_several a ≡ false)
-        (same : a.line ≢ 1 → number_on a ≡ Number.Of m.number → a.of ≡ m) where
+        (same : a.line ≢ 1 → number_on a ≡ Some m.number → a.of ≡ m) where
       its_sendable : Sendable a.of
       its_sendable = sendable a.of w.was_sent
 
@@ -79,7 +79,7 @@ module _ {S : Type 0} {does : ℕ → S → Arrival → Step S} {fresh : S} (rea
       by_number : Dec (m.number ≡ a.of.number) → 2 ≤ a.line → Effect a
       by_number (yes e) h =
           by-line (ℕ_discrete a.line (j + 1)) h
-          (same (omega arith) (number_several a.of a.line (omega (arith, w.to_last)) ∙ ap Number.Of (sym e)))
+          (same (omega arith) (number_several a.of a.line (omega (arith, w.to_last)) ∙ ap Some (sym e)))
       by_number (no n) h =
           stays (λ o e. n (ap (λ (x : Message). x.number) (sym o)))
           (record { says = refused 4; is = reader.other-number a.of its_sendable m p j a.line h w.to_last n; fine = tt })

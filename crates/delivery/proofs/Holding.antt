@@ -9,8 +9,8 @@ use lib.ListN.{length, take, drop, replicate, length-append}
 use lib.Seq.{take-append_seam, drop-append-add, drop-drop}
 use lib.Dec.{eqb}
 use borrow.Author.Tests.{lt-ltb, le-ltb, eq-eqb, ne_eqb}
+use Rattle.std.specs.Prelude.{Option, Some}
 use Rattle.refusal.specs.Words.{pick, taken, refused, over}
-use Rattle.sentence.specs.declared.Number.{Number}
 use Rattle.reassembly.specs.Record.{record_of, empty_as, holding, fresh_record, added, several_of, join_of}
 use Rattle.reassembly.specs.declared.Record.{Record}
 use Rattle.reassembly.specs.declared.Part.{Part}
@@ -24,10 +24,10 @@ held_bytes m j = pick (eqb j (lines_in m)) [] (take (60 * j) m.payload)
 
 -- the record after the first j lines of m, in order
 unfoldable pub held_of : Message → ℕ → Record
-held_of m j = holding (Number.Of m.number) j (held_bytes m j)
+held_of m j = holding (Some m.number) j (held_bytes m j)
 
 -- what is added stands after the bytes held
-module _ (number : Number) (j k : ℕ) (held own : List ℕ) where
+module _ (number : Option ℕ) (j k : ℕ) (held own : List ℕ) where
   zeros : List ℕ
   zeros = replicate 384 0
 
@@ -46,7 +46,7 @@ module _ (number : Number) (j k : ℕ) (held own : List ℕ) where
 
 -- a line of several, by its place
 module _ (m : Message) (r : Record) (i : ℕ) where
-  is-first : 1 < lines_in m → join_of r (fragment m 1) (own m 1) ≡ several_of Part.Unfinished r (holding (Number.Of m.number) 0 []) (fragment m 1) (own m 1)
+  is-first : 1 < lines_in m → join_of r (fragment m 1) (own m 1) ≡ several_of Part.Unfinished r (holding (Some m.number) 0 []) (fragment m 1) (own m 1)
   unfolding join_of
   is-first h = rw (lt-ltb 1 (lines_in m) h)
 
@@ -60,20 +60,20 @@ module _ (m : Message) (r : Record) (i : ℕ) where
 
 -- the next line of the message whose lines are held joins them
 pub joining : (part : Part) (found : Record) (n total j : ℕ) (held own : List ℕ) → length held + length own ≤ 384
-    → several_of part found (holding (Number.Of n) j held) (record { num_fragments = total; fragment_number = j + 1; message_id = Number.Of n }) own
-    ≡ record { told = taken part; after = holding (Number.Of n) (j + 1) (held ++ own) }
+    → several_of part found (holding (Some n) j held) (record { num_fragments = total; fragment_number = j + 1; message_id = Some n }) own
+    ≡ record { told = taken part; after = holding (Some n) (j + 1) (held ++ own) }
 joining part found n total j held own h =
-    to_taken found (holding (Number.Of n) j held) (record { num_fragments = total; fragment_number = j + 1; message_id = Number.Of n }) part own
+    to_taken found (holding (Some n) j held) (record { num_fragments = total; fragment_number = j + 1; message_id = Some n }) part own
     (eq-eqb n n refl) refl h
-    ∙ ap (λ (r : Record). record { told = taken part; after = r }) (added_held (Number.Of n) j (j + 1) held own)
+    ∙ ap (λ (r : Record). record { told = taken part; after = r }) (added_held (Some n) j (j + 1) held own)
 
 module _ (m : Message) where
   -- before the last line has come, and after it
-  pub held_before : (j : ℕ) → j < lines_in m → held_of m j ≡ holding (Number.Of m.number) j (take (60 * j) m.payload)
+  pub held_before : (j : ℕ) → j < lines_in m → held_of m j ≡ holding (Some m.number) j (take (60 * j) m.payload)
   unfolding held_of
   held_before j l = rw (ne_eqb j (lines_in m) (omega arith))
 
-  pub held_last : (j : ℕ) → j ≡ lines_in m → held_of m j ≡ empty_as (Number.Of m.number) j
+  pub held_last : (j : ℕ) → j ≡ lines_in m → held_of m j ≡ empty_as (Some m.number) j
   unfolding held_of
   held_last j e = rw (eq-eqb j (lines_in m) e)
 
@@ -83,7 +83,7 @@ module _ (m : Message) where
 
     -- line j + 1 joins the j lines held
     join_more : (part : Part) (j : ℕ) → j < lines_in m → several_of part (held_of m j) (held_of m j) (fragment m (j + 1)) (own m (j + 1))
-        ≡ record { told = taken part; after = holding (Number.Of m.number) (j + 1) (take (60 * (j + 1)) m.payload) }
+        ≡ record { told = taken part; after = holding (Some m.number) (j + 1) (take (60 * (j + 1)) m.payload) }
     join_more part j l =
         let back : j + 1 - 1 ≡ j = omega arith in
         rw (held_before j l, back, ← joins m j)
@@ -97,10 +97,10 @@ module _ (m : Message) where
 
     pub join_last : (j : ℕ) → 1 ≤ j → j + 1 ≡ lines_in m
         → join_of (held_of m j) (fragment m (j + 1)) (own m (j + 1))
-        ≡ record { told = taken Part.Last; after = holding (Number.Of m.number) (j + 1) m.payload }
+        ≡ record { told = taken Part.Last; after = holding (Some m.number) (j + 1) m.payload }
     join_last j h e =
         is_last m (held_of m j) (j + 1) several e ∙ join_more Part.Last j (omega arith)
-        ∙ ap (λ (xs : List ℕ). record { told = taken Part.Last; after = holding (Number.Of m.number) (j + 1) xs }) (all_lines m (j + 1) e)
+        ∙ ap (λ (xs : List ℕ). record { told = taken Part.Last; after = holding (Some m.number) (j + 1) xs }) (all_lines m (j + 1) e)
 
     -- a line that is not a first one is checked against the record as found, and 4 and 5 leave it so
     not_first : (r : Record) (i n : ℕ) → 2 ≤ i → i ≤ lines_in m

@@ -6,8 +6,8 @@ use mathlib.Core.List.{List, ◌++◌}
 use lib.ListN.{length, take, drop, length-take, length-drop}
 use lib.Seq.{take-add, take_all}
 use borrow.Author.Tests.{eq-eqb, ne_eqb}
+use Rattle.std.specs.Prelude.{Some, None}
 use Rattle.sentence.specs.Written.{sentence_of}
-use Rattle.sentence.specs.declared.Number.{Number}
 use Rattle.sentence.specs.declared.AisSentence.{AisSentence}
 use Rattle.reassembly.specs.declared.Fragment.{Fragment}
 use Rattle.ais.specs.Call.{fragment_of}
@@ -23,10 +23,10 @@ said m i = sentence_of (parts_of m i)
 
 -- what the record takes from a line of several, and from a single line
 abbrev pub fragment : Message → ℕ → Fragment
-fragment m i = record { num_fragments = lines_in m; fragment_number = i; message_id = Number.Of m.number }
+fragment m i = record { num_fragments = lines_in m; fragment_number = i; message_id = Some m.number }
 
 abbrev pub single : Fragment
-single = record { num_fragments = 1; fragment_number = 1; message_id = Number.Absent }
+single = record { num_fragments = 1; fragment_number = 1; message_id = None }
 
 module _ (m : Message) where
   pub some_lines : Sendable m → 1 ≤ lines_in m
@@ -55,7 +55,7 @@ module _ (m : Message) where
     unfolding parts_of
     own_is = refl
 
-    pub number_several : 1 < lines_in m → (parts_of m i).id ≡ Number.Of m.number
+    pub number_several : 1 < lines_in m → (parts_of m i).id ≡ Some m.number
     unfolding parts_of
     number_several h = rw (ne_eqb (lines_in m) 1 (omega arith))
 

@@ -5,9 +5,9 @@ use native.Mathlib.Omega.{arith}
 use mathlib.Core.Path.{◌≡◌, refl, sym, ap, ◌∙◌}
 use mathlib.Core.List.{List, [], ◌∷◌, ◌++◌, Memᴰ}
 use lib.ListN.{take, get_or, length-take, replicate}
+use Rattle.std.specs.Prelude.{Some}
 use Rattle.parsers.specs.Bits.{val, bit_at, cut, pack}
 use Rattle.refusal.specs.Words.{taken}
-use Rattle.sentence.specs.declared.Number.{Number}
 use Rattle.reassembly.specs.Record.{fresh_record, empty_as, holding, join_of}
 use Rattle.reassembly.specs.declared.Record.{Record}
 use Rattle.reassembly.specs.declared.Part.{Part}
@@ -29,27 +29,27 @@ module _ (given : ℕ → Beside) (m k : Message) (s : Sendable m) (t : Sendable
   both : List ℕ
   both = take 60 m.payload ++ own k 2
 
-  first_held : on_call given 0 fresh_record (line m 1) ≡ gives unfinished (holding (Number.Of k.number) 1 (take 60 m.payload))
+  first_held : on_call given 0 fresh_record (line m 1) ≡ gives unfinished (holding (Some k.number) 1 (take 60 m.payload))
   first_held =
       to_unfinished given 0 fresh_record m s 1 (omega arith) (omega arith) (fragment m 1) (of_several m 1 (omega arith)) (held_of m 1)
       (join_first m s (omega arith) fresh_record)
-      ∙ ap (gives unfinished) (held_before m 1 (omega arith) ∙ ap (λ (n : ℕ). holding (Number.Of n) 1 (take 60 m.payload)) same)
+      ∙ ap (gives unfinished) (held_before m 1 (omega arith) ∙ ap (λ (n : ℕ). holding (Some n) 1 (take 60 m.payload)) same)
 
-  second_joins : (r : Record) → r ≡ holding (Number.Of k.number) 1 (take 60 m.payload)
-      → join_of r (fragment k 2) (own k 2) ≡ record { told = taken Part.Last; after = holding (Number.Of k.number) 2 both }
+  second_joins : (r : Record) → r ≡ holding (Some k.number) 1 (take 60 m.payload)
+      → join_of r (fragment k 2) (own k 2) ≡ record { told = taken Part.Last; after = holding (Some k.number) 2 both }
   unfolding both
   second_joins r e =
       rw e
-      (is_last k (holding (Number.Of k.number) 1 (take 60 m.payload)) 2 (omega arith) (sym two-too)
+      (is_last k (holding (Some k.number) 1 (take 60 m.payload)) 2 (omega arith) (sym two-too)
       ∙ joining Part.Last _ k.number (lines_in k) 1 (take 60 m.payload) (own k 2) (omega (arith, length-take 60 m.payload, own_short k 2)))
 
-  second_handed : (r : Record) → r ≡ holding (Number.Of k.number) 1 (take 60 m.payload)
-      → on_call given 1 r (line k 2) ≡ gives (complete both k.fill) (empty_as (Number.Of k.number) 2)
+  second_handed : (r : Record) → r ≡ holding (Some k.number) 1 (take 60 m.payload)
+      → on_call given 1 r (line k 2) ≡ gives (complete both k.fill) (empty_as (Some k.number) 2)
   second_handed r e =
-      to_last given 1 r k t 2 (omega arith) (omega arith) (fragment k 2) (of_several k 2 (omega arith)) (holding (Number.Of k.number) 2 both)
+      to_last given 1 r k t 2 (omega arith) (omega arith) (fragment k 2) (of_several k 2 (omega arith)) (holding (Some k.number) 2 both)
       (second_joins r e)
-      ∙ handed_read both (replicate 384 0) (said k 2).fill_bit_count (empty_as (Number.Of k.number) 2)
-      ∙ ap (λ (fill : ℕ). gives (complete both fill) (empty_as (Number.Of k.number) 2)) (last-fill k 2 (sym two-too))
+      ∙ handed_read both (replicate 384 0) (said k 2).fill_bit_count (empty_as (Some k.number) 2)
+      ∙ ap (λ (fill : ℕ). gives (complete both fill) (empty_as (Some k.number) 2)) (last-fill k 2 (sym two-too))
 
   pub mixed : call_run given (line m 1 ∷ line k 2 ∷ []) ≡ unfinished ∷ complete (take 60 m.payload ++ own k 2) k.fill ∷ []
   unfolding both

@@ -6,8 +6,8 @@ use mathlib.Core.Option.{Option, none, some, some_inj, none-ne-some}
 use mathlib.Core.List.Memᴰ
 use mathlib.Core.List.{List, [], ◌∷◌, Memᴰ}
 use Prim.Native.Nat.{ℕ, ◌<◌}
+use Rattle.std.specs.Prelude.{Some}
 use Rattle.refusal.specs.Words.{pick}
-use Rattle.sentence.specs.declared.Number.{Number}
 use Rattle.writer.specs.Message.{Message, lines_in}
 use Rattle.delivery.specs.Delivery.{Arrival, AllOurs, first_of_several, or_else, always, NoMixing, Numbered}
 use Rattle.delivery.proofs.Lines.{number_several}
@@ -24,7 +24,7 @@ newest-is (a ∷ later) f e = go (latest later) refl (first_of_several a) refl e
     go none q false p z rec = absurd (none-ne-some f z)
     go (some g) q b p z rec = let t = rec (q ∙ z) in (Memᴰ.tail t.0, t.1)
 
-same_of : (a b : ℕ) → Number.Of a ≡ Number.Of b → a ≡ b
+same_of : (a b : ℕ) → Some a ≡ Some b → a ≡ b
 same_of a b e = cc
 
 pub numbered : (sent : List Message) → Numbered sent → (arrivals : List Arrival) → AllOurs sent arrivals → NoMixing always arrivals

@@ -1,4 +1,5 @@
 -- The round trip: what the writer's contract gives, read by the calls of `ais` and unarmored, is the bits again. Assumes nothing.
+use Rattle.std.proofs.Common.{Result, Ok}
 use Prim.Native.Nat.{ℕ, ◌≤◌}
 use native.Mathlib.Omega.{arith}
 use mathlib.Core.Path.{◌≡◌, refl, ◌∙◌}
@@ -9,7 +10,7 @@ use lib.Seq.{take_at}
 use Rattle.refusal.specs.Words.{taken, over}
 use Rattle.armour.specs.Armour.{size, unarmored}
 use Rattle.armour.specs.Unarmor.{answer_of, Unarmors}
-use Rattle.armour.specs.declared.Unarmored.{Unarmored}
+use Rattle.refusal.specs.declared.Refusal.{Refusal}
 use Rattle.armour.proofs.Laws.{unarmored-length}
 use Rattle.armour.proofs.Answers.{fill-some, says-taken, answered-by}
 use Rattle.armour.proofs.Unique.{unique}
@@ -34,7 +35,7 @@ module _ (q : Request) (d : List ℕ) (inside : outside q d ≡ false) where
   abbrev fill : ℕ
   fill = fill_in q.count
 
-  pub back : (out : List ℕ) (r : Unarmored) (out' : List ℕ) → size (length payload) ≤ length out
+  pub back : (out : List ℕ) (r : Result ℕ Refusal) (out' : List ℕ) → size (length payload) ≤ length out
       → Unarmors payload fill out r out' → BitsBack q.count d r out'
   back out r out' h u = record {
     bytes = size (length payload);
@@ -59,9 +60,9 @@ module _ (q : Request) (d : List ℕ) (inside : outside q d ≡ false) where
           says-taken payload fill (length out) (fill-some payload fill s.fill-small (λ e. omega (arith, s.some-payload))) s.fits h
           (omega (arith, armoured_good d q.count))
 
-      same : (r ≡ Unarmored.Bytes (size (length payload))) × (out' ≡ over (unarmored payload fill) out)
+      same : (r ≡ Ok (size (length payload))) × (out' ≡ over (unarmored payload fill) out)
       same =
-          unique payload fill out r (Unarmored.Bytes (size (length payload))) out' (over (unarmored payload fill) out) u
+          unique payload fill out r (Ok (size (length payload))) out' (over (unarmored payload fill) out) u
           (answered-by payload fill out (taken (size (length payload))) says refl refl)
 
 pub round_trip_holds : RoundTrip

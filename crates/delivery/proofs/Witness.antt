@@ -10,10 +10,10 @@ use mathlib.Core.List.{List, [], ◌∷◌, ◌++◌, append-nil, map, Memᴰ}
 use lib.ListN.{length, get_elem?, replicate, length-replicate}
 use borrow.Author.Tests.{le-ltb}
 use lib.Seq.{append_snoc}
+use Rattle.std.specs.Prelude.{Some}
 use Rattle.refusal.specs.Words.{Told, within, left, over}
 use Rattle.sentence.specs.declared.TalkerId.{TalkerId}
 use Rattle.sentence.specs.declared.AisReportType.{AisReportType}
-use Rattle.sentence.specs.declared.Channel.{Channel}
 use Rattle.reassembly.specs.Record.{fresh_record}
 use Rattle.reassembly.specs.declared.Record.{Record}
 use Rattle.writer.specs.Message.{Message, lines_in, text_all}
@@ -37,7 +37,7 @@ buffers = record { payload = replicate 384 0; bits = replicate 288 0; payload_la
 
 -- so many bits on channel A, with the number 3
 abbrev asked : ℕ → Request
-asked n = record { count = n; talker_id = TalkerId.AI; report_type = AisReportType.VDM; channel = Channel.Of 65; message_id = 3 }
+asked n = record { count = n; talker_id = TalkerId.AI; report_type = AisReportType.VDM; channel = Some 65; message_id = 3 }
 
 pub taken : (b : ℕ) → outside (asked 366) (replicate 46 b) ≡ false
 unfolding outside within

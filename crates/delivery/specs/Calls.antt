@@ -1,5 +1,5 @@
 -- The runs of calls of the code, and demand 3 of them. What stands in quotes is its text, or document 01's.
-use Rattle.std.specs.Prelude.{ℕ, ◌≤◌, ◌≡◌, List, [], ◌∷◌, map, length, take}
+use Rattle.std.specs.Prelude.{ℕ, ◌≤◌, ◌≡◌, List, [], ◌∷◌, map, length, take, Ok}
 use Rattle.refusal.specs.Refusal.{row_of}
 use Rattle.answer.specs.declared.Answer as given
 use Rattle.answer.specs.declared.Decode.{Decode}
@@ -10,7 +10,6 @@ use Rattle.reassembly.specs.declared.Record.{Record}
 use Rattle.writer.specs.Message.{Message}
 use Rattle.writer.specs.Writer.{message_of, Writes}
 use Rattle.writer.specs.declared.Request.{Request}
-use Rattle.writer.specs.declared.Written.{Written}
 use Rattle.delivery.specs.Delivery.{Arrival, AllOurs, Answer, refused, unfinished, complete, always, NoMixing, Safety, Delivery, DeliveryAlone, Numbered}
 use Rattle.delivery.specs.Lines.{text_in, the_all_lines, cut_after_lf, LineEnd, handed_on}
 
@@ -22,7 +21,7 @@ pub record Sent : Type 0 where
   pub before : List ℕ
   pub count : ℕ
   pub out : List ℕ
-  pub keeps : Writes request bytes before (Written.Lines count) out
+  pub keeps : Writes request bytes before (Ok count) out
 
 abbrev pub message_in : Sent → Message
 message_in s = message_of s.request s.bytes

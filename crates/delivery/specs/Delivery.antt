@@ -1,11 +1,10 @@
 -- Demand 3: what is handed out where only lines of our writer arrive, some lost, repeated or out of order.
 -- It is stated of any run, that is, of any way to answer the lines that arrive. What stands in quotes is its text.
-use Rattle.std.specs.Prelude.{ℕ, ◌+◌, ◌≤◌, ◌<◌, ◌≡◌, ◌≢◌, Bool, true, false, ◌&&◌, eqb, ltb}
+use Rattle.std.specs.Prelude.{ℕ, ◌+◌, ◌≤◌, ◌<◌, ◌≡◌, ◌≢◌, Bool, true, false, ◌&&◌, eqb, ltb, Option as OrNone}
 use Rattle.std.proofs.Math.Option.{Option, none, some}
 use mathlib.Core.List.{List, [], ◌∷◌, ◌++◌, Memᴰ}
 use Rattle.std.proofs.Math.ListN.{get_elem?}
 use Rattle.refusal.specs.Words.{pick}
-use Rattle.sentence.specs.declared.Number.{Number}
 use Rattle.writer.specs.Message.{Message, lines_in, parts_of}
 
 -- ---- what arrives, and what is answered
@@ -36,7 +35,7 @@ Run = List Arrival → List Answer → Type 0
 
 -- ---- the premise
 -- the message number that a line bears; a single line bears none
-abbrev pub number_on : Arrival → Number
+abbrev pub number_on : Arrival → OrNone ℕ
 number_on a = (parts_of a.of a.line).id
 
 -- a "first line (of several lines)"

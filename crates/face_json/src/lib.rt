@@ -1,510 +1,445 @@
 // A complete message, and a refused line, as a line of JSON: tables over its layout, numbers and bytes of text.
 #![tactic(auto)]
 
-ghost use Rattle.std.specs.Prelude.{◌≡◌, get_or};
-ghost use Rattle.text_out.specs.Text.{text, put};
+ghost use Rattle.std.specs.Prelude.{◌≡◌, ◌++◌, get_or};
+ghost use Rattle.text_out.specs.Output.{Puts};
 ghost use Rattle.face_rows.specs.Rows.{printed};
-ghost use Rattle.face_json.specs.Tables.{origin_table, head_table, status_members, motion_members, place_members, course_members, last_table};
-ghost use Rattle.face_json.specs.Tables.{nothing_table, position_table, craft_table, static_table, asked_table};
+ghost use Rattle.face_rows.specs.Code.{rows_in};
+ghost use Rattle.face_json.specs.Tables.{origin_table, head_table, status_members, motion_members, place_members, course_members};
+ghost use Rattle.face_json.specs.Tables.{position_table};
 ghost use Rattle.face_json.specs.Line.{table_of, message_line, refused_line};
 
-// Tables, each with its words. A row in hex: S_T_VV_PP_K_QQ_RR_FFF_LL, as crate `face_rows` reads it.
-const NOTHING_WORDS: [u8; 24] = *b"{\"class\":\"AIS\",\"line\":}\n";
+use face_rows::Row;
+use face_rows::Row::{Group, Put, Words};
+use face_rows::Test::{Always, Below, Is, IsNot, Least};
+use face_rows::Value::{Degrees, Float, Letter, Number, Pair, Quoted, Signed, Tenths};
+use face_rows::places::{
+    ACCURACY, ANOTHER_KIND, CALLSIGN_LENGTH, CALLSIGN_START, CHANNEL, CHANNEL_THERE, CODE,
+    COURSE_RAW, COURSE_THERE, FIRST_MESSAGES, FIRST_MMSI, FIRST_OFFSET_THERE1, FIRST_OFFSET_THERE2,
+    FIRST_OFFSET1, FIRST_OFFSET2, FIRST_TYPE1, FIRST_TYPE2, FIRST_VALUE, HEADING, HEADING_THERE,
+    KIND, LATITUDE_RAW, LATITUDE_THERE, LINE, LONGITUDE_RAW, LONGITUDE_THERE, MANOEUVRE, MMSI,
+    MODEL, MODEL_TEXT_LENGTH, MODEL_TEXT_START, NAME_LENGTH, NAME_START, PART, RADIO, RAIM, RATE,
+    RATE_THERE, REPEAT, REPORT, SECOND, SECOND_MESSAGES, SECOND_MMSI, SECOND_OFFSET_THERE1,
+    SECOND_OFFSET_THERE2, SECOND_OFFSET1, SECOND_OFFSET2, SECOND_TYPE1, SECOND_TYPE2, SECOND_VALUE,
+    SENDER, SENDER_THERE, SERIAL, SHIP_TYPE, SPEED_RAW, SPEED_THERE, STATIONS, STATUS, TALKER,
+    TEXT_CUT, TEXT_LENGTH, TEXT_START, TO_BOW, TO_PORT, TO_STARBOARD, TO_STERN, TURN, TURN_THERE,
+    TYPE, VALUE_COUNT, VENDOR_LENGTH, VENDOR_START,
+};
+use text_out::Output;
 
-const NOTHING: [u64; 2] = [0x0_0_00_00_1_32_00_000_16, 0x0_0_00_00_0_00_00_016_02];
-
-const ORIGIN_WORDS: [u8; 198] =
-    *b",\"report\":\"VDM\",\"report\":\"VDO\",\"report\":null,\"talker\":\"AB\",\"talker\":\"AD\",\"talker\":\"AI\",\"talker\":\"AN\",\"talker\":\"AR\"\
-      ,\"talker\":\"AS\",\"talker\":\"AT\",\"talker\":\"AX\",\"talker\":\"BS\",\"talker\":\"SA\",\"talker\":null";
-
-const ORIGIN: [u64; 16] = [
-    0x0_1_03_02_0_00_00_048_0e,
-    0xa_2_03_02_0_00_00_000_00,
-    0x0_1_00_02_0_00_00_0b8_0e,
-    0x0_1_01_02_0_00_00_02c_0e,
-    0x0_1_02_02_0_00_00_03a_0e,
-    0x0_1_04_02_0_00_00_056_0e,
-    0x0_1_05_02_0_00_00_064_0e,
-    0x0_1_06_02_0_00_00_072_0e,
-    0x0_1_07_02_0_00_00_080_0e,
-    0x0_1_08_02_0_00_00_08e_0e,
-    0x0_1_09_02_0_00_00_09c_0e,
-    0x0_1_0a_02_0_00_00_0aa_0e,
-    0x0_1_01_03_0_00_00_000_0f,
-    0x2_2_01_03_0_00_00_000_00,
-    0x0_1_00_03_0_00_00_01e_0e,
-    0x0_1_02_03_0_00_00_00f_0f,
+// A message that tells nothing.
+const NOTHING: &[Row] = &[
+    Put(Always, b"{\"class\":\"AIS\",\"line\":", Number(LINE)),
+    Words(Always, b"}\n"),
 ];
 
-const LAST_WORDS: [u8; 52] = *b",\"maneuver\":null,\"raim\":false,\"raim\":true,\"radio\":}\n";
-
-const LAST: [u64; 6] = [
-    0x0_2_00_2a_1_2a_00_000_0c,
-    0x0_1_00_2a_0_00_00_000_10,
-    0x0_1_01_2b_0_00_00_01d_0c,
-    0x0_2_01_2b_0_00_00_010_0d,
-    0x0_0_00_00_1_33_00_029_09,
-    0x0_0_00_00_0_00_00_032_02,
+// The line's talker and report type.
+const ORIGIN: &[Row] = &[
+    Words(Is(TALKER, 3), b",\"talker\":\"AI\""),
+    Group(IsNot(TALKER, 3), 10),
+    Words(Is(TALKER, 0), b",\"talker\":null"),
+    Words(Is(TALKER, 1), b",\"talker\":\"AB\""),
+    Words(Is(TALKER, 2), b",\"talker\":\"AD\""),
+    Words(Is(TALKER, 4), b",\"talker\":\"AN\""),
+    Words(Is(TALKER, 5), b",\"talker\":\"AR\""),
+    Words(Is(TALKER, 6), b",\"talker\":\"AS\""),
+    Words(Is(TALKER, 7), b",\"talker\":\"AT\""),
+    Words(Is(TALKER, 8), b",\"talker\":\"AX\""),
+    Words(Is(TALKER, 9), b",\"talker\":\"BS\""),
+    Words(Is(TALKER, 10), b",\"talker\":\"SA\""),
+    Words(Is(REPORT, 1), b",\"report\":\"VDM\""),
+    Group(IsNot(REPORT, 1), 2),
+    Words(Is(REPORT, 0), b",\"report\":null"),
+    Words(Is(REPORT, 2), b",\"report\":\"VDO\""),
 ];
 
-const CRAFT_BODY_WORDS: [u8; 760] =
-    *b"Noncombatant ship according to RR Resolution No. 18Towing: length exceeds 200m or breadth exceeds 25m, No additional information\
-      , no additional informationDredging or underwater ops, Reserved for future use, all ships of this typeAnti-pollution equipmentSearch and Rescue vessel\
-      Not available (default), Hazardous category A, Hazardous category B, Hazardous category C, Hazardous category DHigh speed craft (HSC),\
-      \"shiptype_text\":nullSpare - Local VesselWing in ground (WIG),\"shiptype_text\":\"Medical Transport,\"model_serial\":,\"to_starboard\":\
-      Law EnforcementPleasure Craft,\"callsign\":,\"shiptype\":,\"to_stern\":,\"vendorid\":Military opsPilot Vessel,\"to_port\":Port Tender,\"partno\":\
-      ,\"serial\":,\"to_bow\":Diving opsOther Type,\"model\":PassengerFishingSailingTankerCargoTug}\n";
-
-const CRAFT_BODY: [u64; 115] = [
-    0x0_0_00_00_1_14_00_296_0a,
-    0x0_0_00_00_1_15_00_244_0c,
-    0x0_4_64_15_0_00_00_1d8_12,
-    0x0_1_00_15_0_00_00_116_17,
-    0x2_3_01_15_0_00_00_000_00,
-    0x1_4_14_15_0_00_00_000_00,
-    0x0_0_00_00_0_00_00_0b7_17,
-    0xb_3_14_15_0_00_00_000_00,
-    0xa_4_1e_15_0_00_00_000_00,
-    0x0_0_00_00_0_00_00_1c4_14,
-    0x0_1_14_15_0_00_00_0ce_18,
-    0x0_1_15_15_0_00_00_12d_16,
-    0x0_1_16_15_0_00_00_143_16,
-    0x0_1_17_15_0_00_00_159_16,
-    0x0_1_18_15_0_00_00_16f_16,
-    0x2_3_19_15_0_00_00_000_00,
-    0x1_4_1d_15_0_00_00_000_00,
-    0x0_0_00_00_0_00_00_0b5_19,
-    0x0_1_1d_15_0_00_00_0b5_19,
-    0xb_3_1e_15_0_00_00_000_00,
-    0xa_4_28_15_0_00_00_000_00,
-    0x0_1_1e_15_0_00_00_2da_07,
-    0x0_1_1f_15_0_00_00_033_06,
-    0x0_1_20_15_0_00_00_033_32,
-    0x0_1_21_15_0_00_00_09b_1a,
-    0x0_1_22_15_0_00_00_2b4_0a,
-    0x0_1_23_15_0_00_00_268_0c,
-    0x0_1_24_15_0_00_00_2e1_07,
-    0x0_1_25_15_0_00_00_22a_0e,
-    0x0_1_26_15_0_00_00_0b7_08,
-    0x0_1_27_15_0_00_00_0b7_08,
-    0xb_3_28_15_0_00_00_000_00,
-    0xa_4_32_15_0_00_00_000_00,
-    0x0_0_00_00_0_00_00_185_16,
-    0x0_1_28_15_0_00_00_0ce_18,
-    0x0_1_29_15_0_00_00_12d_16,
-    0x0_1_2a_15_0_00_00_143_16,
-    0x0_1_2b_15_0_00_00_159_16,
-    0x0_1_2c_15_0_00_00_16f_16,
-    0x2_3_2d_15_0_00_00_000_00,
-    0x1_4_31_15_0_00_00_000_00,
-    0x0_0_00_00_0_00_00_0b5_19,
-    0x0_1_31_15_0_00_00_065_1b,
-    0xb_3_32_15_0_00_00_000_00,
-    0xa_4_3c_15_0_00_00_000_00,
-    0x0_1_32_15_0_00_00_274_0c,
-    0x0_1_33_15_0_00_00_0fe_18,
-    0x0_1_34_15_0_00_00_2f3_03,
-    0x0_1_35_15_0_00_00_28b_0b,
-    0x0_1_36_15_0_00_00_0e6_18,
-    0x0_1_37_15_0_00_00_21b_0f,
-    0x0_1_38_15_0_00_00_1b0_14,
-    0x0_1_39_15_0_00_00_1b0_14,
-    0x0_1_3a_15_0_00_00_1ea_11,
-    0x0_1_3b_15_0_00_00_000_33,
-    0xb_3_3c_15_0_00_00_000_00,
-    0xa_4_46_15_0_00_00_000_00,
-    0x0_0_00_00_0_00_00_2d1_09,
-    0x0_1_3c_15_0_00_00_0ce_18,
-    0x0_1_3d_15_0_00_00_12d_16,
-    0x0_1_3e_15_0_00_00_143_16,
-    0x0_1_3f_15_0_00_00_159_16,
-    0x0_1_40_15_0_00_00_16f_16,
-    0x2_3_41_15_0_00_00_000_00,
-    0x1_4_45_15_0_00_00_000_00,
-    0x0_0_00_00_0_00_00_0b5_19,
-    0x0_1_45_15_0_00_00_065_1b,
-    0xb_3_46_15_0_00_00_000_00,
-    0xa_4_50_15_0_00_00_000_00,
-    0x0_0_00_00_0_00_00_2ee_05,
-    0x0_1_46_15_0_00_00_0ce_18,
-    0x0_1_47_15_0_00_00_12d_16,
-    0x0_1_48_15_0_00_00_143_16,
-    0x0_1_49_15_0_00_00_159_16,
-    0x0_1_4a_15_0_00_00_16f_16,
-    0x2_3_4b_15_0_00_00_000_00,
-    0x1_4_4f_15_0_00_00_000_00,
-    0x0_0_00_00_0_00_00_0b5_19,
-    0x0_1_4f_15_0_00_00_065_1b,
-    0xb_3_50_15_0_00_00_000_00,
-    0xa_4_5a_15_0_00_00_000_00,
-    0x0_0_00_00_0_00_00_2e8_06,
-    0x0_1_50_15_0_00_00_0ce_18,
-    0x0_1_51_15_0_00_00_12d_16,
-    0x0_1_52_15_0_00_00_143_16,
-    0x0_1_53_15_0_00_00_159_16,
-    0x0_1_54_15_0_00_00_16f_16,
-    0x2_3_55_15_0_00_00_000_00,
-    0x1_4_59_15_0_00_00_000_00,
-    0x0_0_00_00_0_00_00_0b5_19,
-    0x0_1_59_15_0_00_00_065_1b,
-    0xb_3_5a_15_0_00_00_000_00,
-    0xa_4_64_15_0_00_00_000_00,
-    0x0_0_00_00_0_00_00_2be_0a,
-    0x0_1_5a_15_0_00_00_0ce_18,
-    0x0_1_5b_15_0_00_00_12d_16,
-    0x0_1_5c_15_0_00_00_143_16,
-    0x0_1_5d_15_0_00_00_159_16,
-    0x0_1_5e_15_0_00_00_16f_16,
-    0x2_3_5f_15_0_00_00_000_00,
-    0x1_4_63_15_0_00_00_000_00,
-    0x0_0_00_00_0_00_00_0b5_19,
-    0x0_1_63_15_0_00_00_080_1b,
-    0x0_4_64_15_0_00_00_19c_01,
-    0x0_3_64_15_0_00_00_19b_15,
-    0x0_0_00_00_5_1d_14_25c_0c,
-    0x0_0_00_00_1_16_00_2c8_09,
-    0x0_0_00_00_1_17_00_2a0_0a,
-    0x0_0_00_00_5_1e_28_1fb_10,
-    0x0_0_00_00_5_1f_3c_238_0c,
-    0x0_0_00_00_1_18_00_2aa_0a,
-    0x0_0_00_00_1_19_00_250_0c,
-    0x0_0_00_00_1_1a_00_280_0b,
-    0x0_0_00_00_1_1b_00_20b_10,
-    0x0_0_00_00_0_00_00_2f6_02,
+// What is last in a position report.
+const LAST: &[Row] = &[
+    Put(IsNot(MANOEUVRE, 0), b",\"maneuver\":", Number(MANOEUVRE)),
+    Words(Is(MANOEUVRE, 0), b",\"maneuver\":null"),
+    Words(Is(RAIM, 1), b",\"raim\":true"),
+    Words(IsNot(RAIM, 1), b",\"raim\":false"),
+    Put(Always, b",\"radio\":", Number(RADIO)),
+    Words(Always, b"}\n"),
 ];
 
-const STATIC_BODY_WORDS: [u8; 24] = *b",\"shipname\":,\"partno\":}\n";
-
-const STATIC_BODY: [u64; 3] = [
-    0x0_0_00_00_1_14_00_00c_0a,
-    0x0_1_00_14_5_1c_00_000_0c,
-    0x0_0_00_00_0_00_00_016_02,
+// Of part 1 of a static data report, after what every message has.
+const CRAFT_BODY: &[Row] = &[
+    Put(Always, b",\"partno\":", Number(PART)),
+    Put(Always, b",\"shiptype\":", Number(SHIP_TYPE)),
+    Words(Below(SHIP_TYPE, 100), b",\"shiptype_text\":\""),
+    Words(Is(SHIP_TYPE, 0), b"Not available (default)"),
+    Group(Least(SHIP_TYPE, 1), 2),
+    Group(Below(SHIP_TYPE, 20), 1),
+    Words(Always, b"Reserved for future use"),
+    Group(Least(SHIP_TYPE, 20), 11),
+    Group(Below(SHIP_TYPE, 30), 10),
+    Words(Always, b"Wing in ground (WIG)"),
+    Words(Is(SHIP_TYPE, 20), b", all ships of this type"),
+    Words(Is(SHIP_TYPE, 21), b", Hazardous category A"),
+    Words(Is(SHIP_TYPE, 22), b", Hazardous category B"),
+    Words(Is(SHIP_TYPE, 23), b", Hazardous category C"),
+    Words(Is(SHIP_TYPE, 24), b", Hazardous category D"),
+    Group(Least(SHIP_TYPE, 25), 2),
+    Group(Below(SHIP_TYPE, 29), 1),
+    Words(Always, b", Reserved for future use"),
+    Words(Is(SHIP_TYPE, 29), b", Reserved for future use"),
+    Group(Least(SHIP_TYPE, 30), 11),
+    Group(Below(SHIP_TYPE, 40), 10),
+    Words(Is(SHIP_TYPE, 30), b"Fishing"),
+    Words(Is(SHIP_TYPE, 31), b"Towing"),
+    Words(
+        Is(SHIP_TYPE, 32),
+        b"Towing: length exceeds 200m or breadth exceeds 25m",
+    ),
+    Words(Is(SHIP_TYPE, 33), b"Dredging or underwater ops"),
+    Words(Is(SHIP_TYPE, 34), b"Diving ops"),
+    Words(Is(SHIP_TYPE, 35), b"Military ops"),
+    Words(Is(SHIP_TYPE, 36), b"Sailing"),
+    Words(Is(SHIP_TYPE, 37), b"Pleasure Craft"),
+    Words(Is(SHIP_TYPE, 38), b"Reserved"),
+    Words(Is(SHIP_TYPE, 39), b"Reserved"),
+    Group(Least(SHIP_TYPE, 40), 11),
+    Group(Below(SHIP_TYPE, 50), 10),
+    Words(Always, b"High speed craft (HSC)"),
+    Words(Is(SHIP_TYPE, 40), b", all ships of this type"),
+    Words(Is(SHIP_TYPE, 41), b", Hazardous category A"),
+    Words(Is(SHIP_TYPE, 42), b", Hazardous category B"),
+    Words(Is(SHIP_TYPE, 43), b", Hazardous category C"),
+    Words(Is(SHIP_TYPE, 44), b", Hazardous category D"),
+    Group(Least(SHIP_TYPE, 45), 2),
+    Group(Below(SHIP_TYPE, 49), 1),
+    Words(Always, b", Reserved for future use"),
+    Words(Is(SHIP_TYPE, 49), b", No additional information"),
+    Group(Least(SHIP_TYPE, 50), 11),
+    Group(Below(SHIP_TYPE, 60), 10),
+    Words(Is(SHIP_TYPE, 50), b"Pilot Vessel"),
+    Words(Is(SHIP_TYPE, 51), b"Search and Rescue vessel"),
+    Words(Is(SHIP_TYPE, 52), b"Tug"),
+    Words(Is(SHIP_TYPE, 53), b"Port Tender"),
+    Words(Is(SHIP_TYPE, 54), b"Anti-pollution equipment"),
+    Words(Is(SHIP_TYPE, 55), b"Law Enforcement"),
+    Words(Is(SHIP_TYPE, 56), b"Spare - Local Vessel"),
+    Words(Is(SHIP_TYPE, 57), b"Spare - Local Vessel"),
+    Words(Is(SHIP_TYPE, 58), b"Medical Transport"),
+    Words(
+        Is(SHIP_TYPE, 59),
+        b"Noncombatant ship according to RR Resolution No. 18",
+    ),
+    Group(Least(SHIP_TYPE, 60), 11),
+    Group(Below(SHIP_TYPE, 70), 10),
+    Words(Always, b"Passenger"),
+    Words(Is(SHIP_TYPE, 60), b", all ships of this type"),
+    Words(Is(SHIP_TYPE, 61), b", Hazardous category A"),
+    Words(Is(SHIP_TYPE, 62), b", Hazardous category B"),
+    Words(Is(SHIP_TYPE, 63), b", Hazardous category C"),
+    Words(Is(SHIP_TYPE, 64), b", Hazardous category D"),
+    Group(Least(SHIP_TYPE, 65), 2),
+    Group(Below(SHIP_TYPE, 69), 1),
+    Words(Always, b", Reserved for future use"),
+    Words(Is(SHIP_TYPE, 69), b", No additional information"),
+    Group(Least(SHIP_TYPE, 70), 11),
+    Group(Below(SHIP_TYPE, 80), 10),
+    Words(Always, b"Cargo"),
+    Words(Is(SHIP_TYPE, 70), b", all ships of this type"),
+    Words(Is(SHIP_TYPE, 71), b", Hazardous category A"),
+    Words(Is(SHIP_TYPE, 72), b", Hazardous category B"),
+    Words(Is(SHIP_TYPE, 73), b", Hazardous category C"),
+    Words(Is(SHIP_TYPE, 74), b", Hazardous category D"),
+    Group(Least(SHIP_TYPE, 75), 2),
+    Group(Below(SHIP_TYPE, 79), 1),
+    Words(Always, b", Reserved for future use"),
+    Words(Is(SHIP_TYPE, 79), b", No additional information"),
+    Group(Least(SHIP_TYPE, 80), 11),
+    Group(Below(SHIP_TYPE, 90), 10),
+    Words(Always, b"Tanker"),
+    Words(Is(SHIP_TYPE, 80), b", all ships of this type"),
+    Words(Is(SHIP_TYPE, 81), b", Hazardous category A"),
+    Words(Is(SHIP_TYPE, 82), b", Hazardous category B"),
+    Words(Is(SHIP_TYPE, 83), b", Hazardous category C"),
+    Words(Is(SHIP_TYPE, 84), b", Hazardous category D"),
+    Group(Least(SHIP_TYPE, 85), 2),
+    Group(Below(SHIP_TYPE, 89), 1),
+    Words(Always, b", Reserved for future use"),
+    Words(Is(SHIP_TYPE, 89), b", No additional information"),
+    Group(Least(SHIP_TYPE, 90), 11),
+    Group(Below(SHIP_TYPE, 100), 10),
+    Words(Always, b"Other Type"),
+    Words(Is(SHIP_TYPE, 90), b", all ships of this type"),
+    Words(Is(SHIP_TYPE, 91), b", Hazardous category A"),
+    Words(Is(SHIP_TYPE, 92), b", Hazardous category B"),
+    Words(Is(SHIP_TYPE, 93), b", Hazardous category C"),
+    Words(Is(SHIP_TYPE, 94), b", Hazardous category D"),
+    Group(Least(SHIP_TYPE, 95), 2),
+    Group(Below(SHIP_TYPE, 99), 1),
+    Words(Always, b", Reserved for future use"),
+    Words(Is(SHIP_TYPE, 99), b", no additional information"),
+    Words(Below(SHIP_TYPE, 100), b"\""),
+    Words(Least(SHIP_TYPE, 100), b",\"shiptype_text\":null"),
+    Put(
+        Always,
+        b",\"vendorid\":",
+        Quoted(VENDOR_LENGTH, VENDOR_START),
+    ),
+    Put(Always, b",\"model\":", Number(MODEL)),
+    Put(Always, b",\"serial\":", Number(SERIAL)),
+    Put(
+        Always,
+        b",\"model_serial\":",
+        Quoted(MODEL_TEXT_LENGTH, MODEL_TEXT_START),
+    ),
+    Put(
+        Always,
+        b",\"callsign\":",
+        Quoted(CALLSIGN_LENGTH, CALLSIGN_START),
+    ),
+    Put(Always, b",\"to_bow\":", Number(TO_BOW)),
+    Put(Always, b",\"to_stern\":", Number(TO_STERN)),
+    Put(Always, b",\"to_port\":", Number(TO_PORT)),
+    Put(Always, b",\"to_starboard\":", Number(TO_STARBOARD)),
+    Words(Always, b"}\n"),
 ];
 
-const ASKED_BODY_WORDS: [u8; 156] =
-    *b",\"offset1_1\":null,\"offset1_2\":null,\"offset2_1\":null,\"offset2_2\":null,\"type1_1\":null,\"type1_2\":null,\"type2_1\":null,\"type2_2\":null\
-      ,\"mmsi1\":null,\"mmsi2\":null}\n";
-
-const ASKED_BODY: [u64; 21] = [
-    0x0_3_01_14_1_15_00_080_09,
-    0x0_4_01_14_0_00_00_080_0d,
-    0x0_3_01_16_1_17_00_044_0b,
-    0x0_4_01_16_0_00_00_044_0f,
-    0x0_1_01_18_1_19_00_000_0d,
-    0x0_2_01_18_0_00_00_000_11,
-    0x0_3_02_16_1_1a_00_053_0b,
-    0x0_4_02_16_0_00_00_053_0f,
-    0x0_1_01_1b_1_1c_00_011_0d,
-    0x0_2_01_1b_0_00_00_011_11,
-    0x0_3_02_14_1_1d_00_08d_09,
-    0x0_4_02_14_0_00_00_08d_0d,
-    0x0_3_01_1e_1_1f_00_062_0b,
-    0x0_4_01_1e_0_00_00_062_0f,
-    0x0_1_01_20_1_21_00_022_0d,
-    0x0_2_01_20_0_00_00_022_11,
-    0x0_3_02_1e_1_22_00_071_0b,
-    0x0_4_02_1e_0_00_00_071_0f,
-    0x0_1_01_23_1_24_00_033_0d,
-    0x0_2_01_23_0_00_00_033_11,
-    0x0_0_00_00_0_00_00_09a_02,
+// Of its other parts.
+const STATIC_BODY: &[Row] = &[
+    Put(Always, b",\"partno\":", Number(PART)),
+    Put(
+        Is(PART, 0),
+        b",\"shipname\":",
+        Quoted(NAME_LENGTH, NAME_START),
+    ),
+    Words(Always, b"}\n"),
 ];
 
-const REFUSED_WORDS: [u8; 523] =
-    *b"message number differs from the one beforefill over 5, or fill with empty datafragment number is not the next onerequest outside the writer's limits\
-      message ends inside a needed fieldNMEA sentence of another kindmessage type is not decodeda lent output is too smallline breaks the line rules\
-      byte cannot be unarmoredmessage type is unknownpayload over 384 bytesline over 1024 bytes,\"text_cut\":truechecksum differs{\"class\":\"ERROR\"\
-      \",\"computed\":\",\"checksum\":\",\"message\":\",\"refusal\":,\"values\":[,\"line\":,\"mmsi\":,\"text\":,\"type\":}\n]";
-
-const REFUSED: [u64; 32] = [
-    0x0_0_00_00_0_00_00_19b_10,
-    0x0_0_00_00_1_32_00_1e8_08,
-    0x0_0_00_00_1_34_00_1d2_0b,
-    0x0_0_00_00_0_00_00_1dd_0b,
-    0x0_3_01_35_1_00_00_000_00,
-    0x0_3_02_35_1_01_00_035_01,
-    0x0_0_00_00_0_00_00_20a_01,
-    0x0_1_03_34_9_00_00_1b9_0d,
-    0x0_1_03_34_9_01_00_1ab_0e,
-    0x0_1_03_34_0_00_00_17c_01,
-    0x0_1_0a_34_1_00_00_200_08,
-    0x0_1_01_38_1_39_00_1f0_08,
-    0x0_0_00_00_0_00_00_1c6_0c,
-    0x0_1_01_3a_0_00_00_0b6_1d,
-    0xd_2_01_3a_0_00_00_000_00,
-    0x0_1_01_34_0_00_00_167_14,
-    0x0_1_02_34_0_00_00_108_1a,
-    0x0_1_03_34_0_00_00_18b_10,
-    0x0_1_04_34_0_00_00_000_2a,
-    0x0_1_05_34_0_00_00_04e_23,
-    0x0_1_06_34_0_00_00_151_16,
-    0x0_1_07_34_0_00_00_02a_24,
-    0x0_1_08_34_0_00_00_122_18,
-    0x0_1_09_34_0_00_00_094_22,
-    0x0_1_0a_34_0_00_00_0d3_1b,
-    0x0_1_0b_34_0_00_00_13a_17,
-    0x0_1_0c_34_0_00_00_0ee_1a,
-    0x0_1_0d_34_0_00_00_071_23,
-    0x0_0_00_00_0_00_00_17c_01,
-    0x0_0_00_00_5_36_00_1f8_08,
-    0x0_1_01_37_0_00_00_17b_10,
-    0x0_0_00_00_0_00_00_208_02,
+// Of an interrogation.
+const ASKED_BODY: &[Row] = &[
+    Put(Least(STATIONS, 1), b",\"mmsi1\":", Number(FIRST_MMSI)),
+    Words(Below(STATIONS, 1), b",\"mmsi1\":null"),
+    Put(
+        Least(FIRST_MESSAGES, 1),
+        b",\"type1_1\":",
+        Number(FIRST_TYPE1),
+    ),
+    Words(Below(FIRST_MESSAGES, 1), b",\"type1_1\":null"),
+    Put(
+        Is(FIRST_OFFSET_THERE1, 1),
+        b",\"offset1_1\":",
+        Number(FIRST_OFFSET1),
+    ),
+    Words(IsNot(FIRST_OFFSET_THERE1, 1), b",\"offset1_1\":null"),
+    Put(
+        Least(FIRST_MESSAGES, 2),
+        b",\"type1_2\":",
+        Number(FIRST_TYPE2),
+    ),
+    Words(Below(FIRST_MESSAGES, 2), b",\"type1_2\":null"),
+    Put(
+        Is(FIRST_OFFSET_THERE2, 1),
+        b",\"offset1_2\":",
+        Number(FIRST_OFFSET2),
+    ),
+    Words(IsNot(FIRST_OFFSET_THERE2, 1), b",\"offset1_2\":null"),
+    Put(Least(STATIONS, 2), b",\"mmsi2\":", Number(SECOND_MMSI)),
+    Words(Below(STATIONS, 2), b",\"mmsi2\":null"),
+    Put(
+        Least(SECOND_MESSAGES, 1),
+        b",\"type2_1\":",
+        Number(SECOND_TYPE1),
+    ),
+    Words(Below(SECOND_MESSAGES, 1), b",\"type2_1\":null"),
+    Put(
+        Is(SECOND_OFFSET_THERE1, 1),
+        b",\"offset2_1\":",
+        Number(SECOND_OFFSET1),
+    ),
+    Words(IsNot(SECOND_OFFSET_THERE1, 1), b",\"offset2_1\":null"),
+    Put(
+        Least(SECOND_MESSAGES, 2),
+        b",\"type2_2\":",
+        Number(SECOND_TYPE2),
+    ),
+    Words(Below(SECOND_MESSAGES, 2), b",\"type2_2\":null"),
+    Put(
+        Is(SECOND_OFFSET_THERE2, 1),
+        b",\"offset2_2\":",
+        Number(SECOND_OFFSET2),
+    ),
+    Words(IsNot(SECOND_OFFSET_THERE2, 1), b",\"offset2_2\":null"),
+    Words(Always, b"}\n"),
 ];
 
-// Places of the layout that the code reads by itself, by their names in layout_numbers/specs/Places; part and status share one.
-const TALKER: usize = 2;
+// A refused line.
+const REFUSED: &[Row] = &[
+    Words(Always, b"{\"class\":\"ERROR\""),
+    Put(Always, b",\"line\":", Number(LINE)),
+    Put(Always, b",\"refusal\":", Number(CODE)),
+    Words(Always, b",\"values\":["),
+    Put(Least(VALUE_COUNT, 1), b"", Number(FIRST_VALUE)),
+    Put(Least(VALUE_COUNT, 2), b",", Number(SECOND_VALUE)),
+    Words(Always, b"]"),
+    Put(Is(CODE, 3), b",\"checksum\":\"", Pair(FIRST_VALUE)),
+    Put(Is(CODE, 3), b"\",\"computed\":\"", Pair(SECOND_VALUE)),
+    Words(Is(CODE, 3), b"\""),
+    Put(Is(CODE, 10), b",\"type\":", Number(FIRST_VALUE)),
+    Put(Is(SENDER_THERE, 1), b",\"mmsi\":", Number(SENDER)),
+    Words(Always, b",\"message\":\""),
+    Words(Is(ANOTHER_KIND, 1), b"NMEA sentence of another kind"),
+    Group(IsNot(ANOTHER_KIND, 1), 13),
+    Words(Is(CODE, 1), b"line over 1024 bytes"),
+    Words(Is(CODE, 2), b"line breaks the line rules"),
+    Words(Is(CODE, 3), b"checksum differs"),
+    Words(Is(CODE, 4), b"message number differs from the one before"),
+    Words(Is(CODE, 5), b"fragment number is not the next one"),
+    Words(Is(CODE, 6), b"payload over 384 bytes"),
+    Words(Is(CODE, 7), b"fill over 5, or fill with empty data"),
+    Words(Is(CODE, 8), b"byte cannot be unarmored"),
+    Words(Is(CODE, 9), b"message ends inside a needed field"),
+    Words(Is(CODE, 10), b"message type is not decoded"),
+    Words(Is(CODE, 11), b"message type is unknown"),
+    Words(Is(CODE, 12), b"a lent output is too small"),
+    Words(Is(CODE, 13), b"request outside the writer's limits"),
+    Words(Always, b"\""),
+    Put(Always, b",\"text\":", Quoted(TEXT_LENGTH, TEXT_START)),
+    Words(Is(TEXT_CUT, 1), b",\"text_cut\":true"),
+    Words(Always, b"}\n"),
+];
 
-const REPORT: usize = 3;
-
-const CHANNEL_THERE: usize = 8;
-
-const CHANNEL: usize = 9;
-
-const KIND: usize = 16;
-
-const TYPE: usize = 17;
-
-const REPEAT: usize = 18;
-
-const MMSI: usize = 19;
-
-const STATUS: usize = 20;
-
-const TURN_THERE: usize = 21;
-
-const TURN: usize = 22;
-
-const RATE_THERE: usize = 23;
-
-const RATE: usize = 24;
-
-const SPEED_THERE: usize = 26;
-
-const SPEED_RAW: usize = 28;
-
-const ACCURACY: usize = 29;
-
-const LONGITUDE_THERE: usize = 30;
-
-const LONGITUDE_RAW: usize = 32;
-
-const LATITUDE_THERE: usize = 33;
-
-const LATITUDE_RAW: usize = 35;
-
-const COURSE_THERE: usize = 36;
-
-const COURSE_RAW: usize = 38;
-
-const HEADING_THERE: usize = 39;
-
-const HEADING: usize = 40;
-
-const SECOND: usize = 41;
-
-const LINE: usize = 50;
-
-const PART: usize = 20;
-
-// Forms of a value, as crate `face_rows` reads them.
-const NUMBER: u64 = 1;
-
-const SIGNED: u64 = 2;
-
-const TENTHS: u64 = 3;
-
-const DEGREES: u64 = 4;
-
-const LETTER: u64 = 8;
-
-const FLOAT: u64 = 10;
-
-// The line of a complete message, by its kind.
-pub fn put_message(out: &mut [u8], at: usize, numbers: &[u64], texts: &[u8]) -> usize
-    ensures { text result out.new ≡ put (text at out.old) (message_line numbers.now texts.now) }
+// The line of a complete message, by its kind. `trace_show::face` has one over tables alone; here the code puts most, so that one for both would be no plainer.
+pub fn put_message(out: &mut Output, numbers: &[u64], texts: &[u8])
+    ensures { Puts out.old out.new (message_line numbers.now texts.now) }
 {
+    // a kind is a number of the layout, as C callers have it
     let kind = face_rows::number_at(numbers, KIND);
     match kind {
-        1 => put_position(out, at, numbers, texts),
-        2 => put_part(out, at, numbers, texts),
-        3 => put_asked(out, at, numbers, texts),
-        _ => put_nothing(out, at, numbers, texts),
+        1 => put_position(out, numbers, texts),
+        2 => put_part(out, numbers, texts),
+        3 => put_body(out, ASKED_BODY, numbers, texts),
+        _ => face_rows::put_rows(out, NOTHING, numbers, texts),
     }
 }
 
-// The line of a refused one.
-pub fn put_refused(out: &mut [u8], at: usize, numbers: &[u64], texts: &[u8]) -> usize
-    ensures { text result out.new ≡ put (text at out.old) (refused_line numbers.now texts.now) }
+// The line of a refused one: a name for a table, as callers know no table.
+pub fn put_refused(out: &mut Output, numbers: &[u64], texts: &[u8])
+    ensures { Puts out.old out.new (refused_line numbers.now texts.now) }
 {
-    face_rows::put_rows(out, at, &REFUSED, &REFUSED_WORDS, numbers, texts)
+    face_rows::put_rows(out, REFUSED, numbers, texts);
 }
 
 // A position report.
-fn put_position(out: &mut [u8], at: usize, numbers: &[u64], texts: &[u8]) -> usize
-    ensures { text result out.new
-        ≡ put (text at out.old) (printed position_table numbers.now texts.now) }
+fn put_position(out: &mut Output, numbers: &[u64], texts: &[u8])
+    ensures { Puts out.old out.new (printed position_table numbers.now texts.now) }
 {
-    let a = put_head(out, at, numbers, texts);
-    let b = put_status(out, a, numbers, texts);
-    let c = put_motion(out, b, numbers, texts);
-    let d = put_place(out, c, numbers, texts);
-    let e = put_course(out, d, numbers, texts);
-    put_last(out, e, numbers, texts)
+    put_head(out, numbers, texts);
+    put_status(out, numbers, texts);
+    put_motion(out, numbers, texts);
+    put_place(out, numbers, texts);
+    put_course(out, numbers, texts);
+    // what is last is put by its table: a further member is a row there
+    face_rows::put_rows(out, LAST, numbers, texts);
 }
 
 // What every message has.
-fn put_head(out: &mut [u8], at: usize, numbers: &[u64], texts: &[u8]) -> usize
-    ensures { text result out.new
-        ≡ put (text at out.old) (printed head_table numbers.now texts.now) }
+fn put_head(out: &mut Output, numbers: &[u64], texts: &[u8])
+    ensures { Puts out.old out.new (printed head_table numbers.now texts.now) }
 {
-    let a = text_out::put_bytes(out, at, b"{\"class\":\"AIS\",\"line\":");
-    let b = face_rows::put_value(out, a, NUMBER, LINE, 0, numbers, texts);
-    let c = put_origin(out, b, numbers, texts);
-    let d = text_out::put_bytes(out, c, b",\"channel\":");
-    let e = face_members::value_or_null(out, d, numbers, texts, CHANNEL_THERE, LETTER, CHANNEL);
-    let f = text_out::put_bytes(out, e, b",\"type\":");
-    let g = face_rows::put_value(out, f, NUMBER, TYPE, 0, numbers, texts);
-    let h = text_out::put_bytes(out, g, b",\"repeat\":");
-    let i = face_rows::put_value(out, h, NUMBER, REPEAT, 0, numbers, texts);
-    let j = text_out::put_bytes(out, i, b",\"mmsi\":");
-    face_rows::put_value(out, j, NUMBER, MMSI, 0, numbers, texts)
+    out.put_bytes(b"{\"class\":\"AIS\",\"line\":");
+    face_rows::put_value(out, Number(LINE), numbers, texts);
+    put_origin(out, numbers, texts);
+    out.put_bytes(b",\"channel\":");
+    face_members::value_or_null(out, numbers, texts, CHANNEL_THERE, Letter(CHANNEL));
+    out.put_bytes(b",\"type\":");
+    face_rows::put_value(out, Number(TYPE), numbers, texts);
+    out.put_bytes(b",\"repeat\":");
+    face_rows::put_value(out, Number(REPEAT), numbers, texts);
+    out.put_bytes(b",\"mmsi\":");
+    face_rows::put_value(out, Number(MMSI), numbers, texts);
 }
 
 // The line's talker and report type; most are AI and VDM.
-fn put_origin(out: &mut [u8], at: usize, numbers: &[u64], texts: &[u8]) -> usize
-    ensures { text result out.new
-        ≡ put (text at out.old) (printed origin_table numbers.now texts.now) }
+fn put_origin(out: &mut Output, numbers: &[u64], texts: &[u8])
+    ensures { Puts out.old out.new (printed origin_table numbers.now texts.now) }
 {
     let talker = face_rows::number_at(numbers, TALKER);
     let report = face_rows::number_at(numbers, REPORT);
     if talker == 3 {
         if report == 1 {
-            return text_out::put_bytes(out, at, b",\"talker\":\"AI\",\"report\":\"VDM\"");
+            out.put_bytes(b",\"talker\":\"AI\",\"report\":\"VDM\"");
+            return;
         }
     }
-    face_rows::put_rows(out, at, &ORIGIN, &ORIGIN_WORDS, numbers, texts)
+    face_rows::put_rows(out, ORIGIN, numbers, texts);
 }
 
 // Of a position report: its status.
-fn put_status(out: &mut [u8], at: usize, numbers: &[u64], texts: &[u8]) -> usize
-    ensures { text result out.new
-        ≡ put (text at out.old) (printed status_members numbers.now texts.now) }
+fn put_status(out: &mut Output, numbers: &[u64], texts: &[u8])
+    ensures { Puts out.old out.new (printed status_members numbers.now texts.now) }
 {
-    let a = text_out::put_bytes(out, at, b",\"status\":");
-    let b = face_members::unless_null(out, a, numbers, STATUS, 15);
-    let c = text_out::put_bytes(out, b, b",\"status_text\":");
-    face_members::put_words(out, c, numbers)
+    out.put_bytes(b",\"status\":");
+    face_members::unless_null(out, numbers, STATUS, 15);
+    out.put_bytes(b",\"status_text\":");
+    face_members::put_words(out, numbers);
 }
 
 // Its rate of turn and its speed.
-fn put_motion(out: &mut [u8], at: usize, numbers: &[u64], texts: &[u8]) -> usize
-    ensures { text result out.new
-        ≡ put (text at out.old) (printed motion_members numbers.now texts.now) }
+fn put_motion(out: &mut Output, numbers: &[u64], texts: &[u8])
+    ensures { Puts out.old out.new (printed motion_members numbers.now texts.now) }
 {
-    let a = text_out::put_bytes(out, at, b",\"turn\":");
-    let b = face_members::value_or_null(out, a, numbers, texts, TURN_THERE, SIGNED, TURN);
-    let c = text_out::put_bytes(out, b, b",\"turn_rate\":");
-    let d = face_members::value_or_null(out, c, numbers, texts, RATE_THERE, FLOAT, RATE);
-    let e = text_out::put_bytes(out, d, b",\"speed\":");
-    let f = face_members::value_or_null(out, e, numbers, texts, SPEED_THERE, TENTHS, SPEED_RAW);
-    let g = text_out::put_bytes(out, f, b",\"speed_raw\":");
-    face_rows::put_value(out, g, NUMBER, SPEED_RAW, 0, numbers, texts)
+    out.put_bytes(b",\"turn\":");
+    face_members::value_or_null(out, numbers, texts, TURN_THERE, Signed(TURN));
+    out.put_bytes(b",\"turn_rate\":");
+    face_members::value_or_null(out, numbers, texts, RATE_THERE, Float(RATE));
+    out.put_bytes(b",\"speed\":");
+    face_members::value_or_null(out, numbers, texts, SPEED_THERE, Tenths(SPEED_RAW));
+    out.put_bytes(b",\"speed_raw\":");
+    face_rows::put_value(out, Number(SPEED_RAW), numbers, texts);
 }
 
 // Its position.
-fn put_place(out: &mut [u8], at: usize, numbers: &[u64], texts: &[u8]) -> usize
-    ensures { text result out.new
-        ≡ put (text at out.old) (printed place_members numbers.now texts.now) }
+fn put_place(out: &mut Output, numbers: &[u64], texts: &[u8])
+    ensures { Puts out.old out.new (printed place_members numbers.now texts.now) }
 {
-    let a = text_out::put_bytes(out, at, b",\"accuracy\":");
-    let b = face_members::put_flag(out, a, numbers, ACCURACY);
-    let c = text_out::put_bytes(out, b, b",\"lon\":");
-    let d = face_members::value_or_null(
-        out,
-        c,
-        numbers,
-        texts,
-        LONGITUDE_THERE,
-        DEGREES,
-        LONGITUDE_RAW,
-    );
-    let e = text_out::put_bytes(out, d, b",\"lon_raw\":");
-    let f = face_rows::put_value(out, e, SIGNED, LONGITUDE_RAW, 0, numbers, texts);
-    let g = text_out::put_bytes(out, f, b",\"lat\":");
-    let h = face_members::value_or_null(
-        out,
-        g,
-        numbers,
-        texts,
-        LATITUDE_THERE,
-        DEGREES,
-        LATITUDE_RAW,
-    );
-    let i = text_out::put_bytes(out, h, b",\"lat_raw\":");
-    face_rows::put_value(out, i, SIGNED, LATITUDE_RAW, 0, numbers, texts)
+    out.put_bytes(b",\"accuracy\":");
+    face_members::put_flag(out, numbers, ACCURACY);
+    out.put_bytes(b",\"lon\":");
+    face_members::value_or_null(out, numbers, texts, LONGITUDE_THERE, Degrees(LONGITUDE_RAW));
+    out.put_bytes(b",\"lon_raw\":");
+    face_rows::put_value(out, Signed(LONGITUDE_RAW), numbers, texts);
+    out.put_bytes(b",\"lat\":");
+    face_members::value_or_null(out, numbers, texts, LATITUDE_THERE, Degrees(LATITUDE_RAW));
+    out.put_bytes(b",\"lat_raw\":");
+    face_rows::put_value(out, Signed(LATITUDE_RAW), numbers, texts);
 }
 
 // Its course and heading.
-fn put_course(out: &mut [u8], at: usize, numbers: &[u64], texts: &[u8]) -> usize
-    ensures { text result out.new
-        ≡ put (text at out.old) (printed course_members numbers.now texts.now) }
+fn put_course(out: &mut Output, numbers: &[u64], texts: &[u8])
+    ensures { Puts out.old out.new (printed course_members numbers.now texts.now) }
 {
-    let a = text_out::put_bytes(out, at, b",\"course\":");
-    let b = face_members::value_or_null(out, a, numbers, texts, COURSE_THERE, TENTHS, COURSE_RAW);
-    let c = text_out::put_bytes(out, b, b",\"course_raw\":");
-    let d = face_rows::put_value(out, c, NUMBER, COURSE_RAW, 0, numbers, texts);
-    let e = text_out::put_bytes(out, d, b",\"heading\":");
-    let f = face_members::value_or_null(out, e, numbers, texts, HEADING_THERE, NUMBER, HEADING);
-    let g = text_out::put_bytes(out, f, b",\"second\":");
-    face_rows::put_value(out, g, NUMBER, SECOND, 0, numbers, texts)
-}
-
-// What is last, by its table: a further member is a row there.
-fn put_last(out: &mut [u8], at: usize, numbers: &[u64], texts: &[u8]) -> usize
-    ensures { text result out.new
-        ≡ put (text at out.old) (printed last_table numbers.now texts.now) }
-{
-    face_rows::put_rows(out, at, &LAST, &LAST_WORDS, numbers, texts)
+    out.put_bytes(b",\"course\":");
+    face_members::value_or_null(out, numbers, texts, COURSE_THERE, Tenths(COURSE_RAW));
+    out.put_bytes(b",\"course_raw\":");
+    face_rows::put_value(out, Number(COURSE_RAW), numbers, texts);
+    out.put_bytes(b",\"heading\":");
+    face_members::value_or_null(out, numbers, texts, HEADING_THERE, Number(HEADING));
+    out.put_bytes(b",\"second\":");
+    face_rows::put_value(out, Number(SECOND), numbers, texts);
 }
 
 // A static data report, by its part.
-fn put_part(out: &mut [u8], at: usize, numbers: &[u64], texts: &[u8]) -> usize
-    ensures { text result out.new
-        ≡ put (text at out.old) (printed (table_of 2 (get_or numbers.now 20 0)) numbers.now texts.now) }
+fn put_part(out: &mut Output, numbers: &[u64], texts: &[u8])
+    ensures { Puts out.old out.new (printed (table_of 2 (get_or numbers.now 20 0)) numbers.now texts.now) }
 {
+    // a part is a number of the layout, as C callers have it
     let part = face_rows::number_at(numbers, PART);
     match part {
-        1 => put_craft(out, at, numbers, texts),
-        _ => put_static(out, at, numbers, texts),
+        1 => put_body(out, CRAFT_BODY, numbers, texts),
+        _ => put_body(out, STATIC_BODY, numbers, texts),
     }
 }
 
-// Part 1 of a static data report.
-fn put_craft(out: &mut [u8], at: usize, numbers: &[u64], texts: &[u8]) -> usize
-    ensures { text result out.new ≡ put (text at out.old) (printed craft_table numbers.now texts.now) }
+// What every message has, and then the rows of its kind.
+fn put_body(out: &mut Output, rows: &[Row], numbers: &[u64], texts: &[u8])
+    ensures { Puts out.old out.new (printed (head_table ++ rows_in rows.now) numbers.now texts.now) }
 {
-    let a = put_head(out, at, numbers, texts);
-    face_rows::put_rows(out, a, &CRAFT_BODY, &CRAFT_BODY_WORDS, numbers, texts)
-}
-
-// Its other parts.
-fn put_static(out: &mut [u8], at: usize, numbers: &[u64], texts: &[u8]) -> usize
-    ensures { text result out.new ≡ put (text at out.old) (printed static_table numbers.now texts.now) }
-{
-    let a = put_head(out, at, numbers, texts);
-    face_rows::put_rows(out, a, &STATIC_BODY, &STATIC_BODY_WORDS, numbers, texts)
-}
-
-// An interrogation.
-fn put_asked(out: &mut [u8], at: usize, numbers: &[u64], texts: &[u8]) -> usize
-    ensures { text result out.new ≡ put (text at out.old) (printed asked_table numbers.now texts.now) }
-{
-    let a = put_head(out, at, numbers, texts);
-    face_rows::put_rows(out, a, &ASKED_BODY, &ASKED_BODY_WORDS, numbers, texts)
-}
-
-// A message that tells nothing.
-fn put_nothing(out: &mut [u8], at: usize, numbers: &[u64], texts: &[u8]) -> usize
-    ensures { text result out.new ≡ put (text at out.old) (printed nothing_table numbers.now texts.now) }
-{
-    face_rows::put_rows(out, at, &NOTHING, &NOTHING_WORDS, numbers, texts)
+    put_head(out, numbers, texts);
+    face_rows::put_rows(out, rows, numbers, texts);
 }

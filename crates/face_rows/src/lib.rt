@@ -1,103 +1,127 @@
 // A face of an answer: rows of a table, each a word and a value of the answer's layout, put one after the other.
-// A row is a number, in hex S_T_VV_PP_K_QQ_RR_FFF_LL: the test T of number PP against VV, and how many rows S after this one depend on it too,
-// the value's form K and its places QQ and RR, and the word's start FFF and length LL among the table's words.
 #![tactic(auto)]
 
-ghost use Rattle.std.specs.Prelude.{◌≡◌, get_or, take, drop};
-ghost use Rattle.text_out.specs.Text.{text, put};
-ghost use Rattle.face_rows.specs.Rows.{holds, value_text, row_text, printed};
-ghost use Rattle.face_rows.specs.Code.{test_of, value_in, row_in, rows_in};
+ghost use Rattle.std.specs.Prelude.{◌≡◌, ◌++◌, get_or, take, drop};
+ghost use Rattle.text_out.specs.Output.{Puts};
+ghost use Rattle.face_rows.specs.Rows.{holds, value_text, printed};
+ghost use Rattle.face_rows.specs.Code.{test_in, value_in, rows_in};
 
-// The rows of a table. Where a row's test does not hold, it is left out, and so are as many rows after it as it says.
-pub fn put_rows(
-    out: &mut [u8],
-    at: usize,
-    rows: &[u64],
-    words: &[u8],
-    numbers: &[u64],
-    texts: &[u8],
-) -> usize
-    ensures { text result out.new
-        ≡ put (text at out.old) (printed (rows_in words.now rows.now) numbers.now texts.now) }
-{
-    let mut p = at;
-    let mut i = 0;
-    while i < rows.len() {
-        let row = rows[i];
-        if holds(numbers, row) {
-            p = put_row(out, p, row, words, numbers, texts);
-            i += 1;
-            continue;
-        }
-        i += 1 + (row / 0x1000_0000_0000_0000 % 16) as usize;
-    }
-    p
+pub mod places;
+
+use text_out::Output;
+
+// A test of the number at a place against a number.
+#[derive(Clone, Copy)]
+pub enum Test {
+    Always,
+    Is(usize, u64),
+    IsNot(usize, u64),
+    Least(usize, u64),
+    Below(usize, u64),
 }
 
-// A row: its word, and its value.
-fn put_row(
-    out: &mut [u8],
-    at: usize,
-    row: u64,
-    words: &[u8],
-    numbers: &[u64],
-    texts: &[u8],
-) -> usize
-    ensures { text result out.new
-        ≡ put (text at out.old) (row_text numbers.now texts.now (row_in words.now row)) }
+// A value: of the number at a place, or of the text whose length is at a place and whose bytes start at another.
+#[derive(Clone, Copy)]
+pub enum Value {
+    Number(usize),
+    Signed(usize),
+    Tenths(usize),
+    Degrees(usize),
+    Quoted(usize, usize),
+    Hexed(usize, usize),
+    Pattern(usize),
+    Letter(usize),
+    Pair(usize),
+    Float(usize),
+}
+
+// A row of a table: a word, or a word and a value after it, put where a test holds; or a test on which so many rows after it depend.
+#[derive(Clone, Copy)]
+pub enum Row {
+    Words(Test, &'static [u8]),
+    Put(Test, &'static [u8], Value),
+    Group(Test, usize),
+}
+
+// The rows of a table. Where a row's test does not hold, it is left out, and so are as many rows after it as it says.
+pub fn put_rows(out: &mut Output, rows: &[Row], numbers: &[u64], texts: &[u8])
+    ensures { Puts out.old out.new (printed (rows_in rows.now) numbers.now texts.now) }
 {
-    let from = (row / 0x100 % 4096) as usize;
-    let len = (row % 256) as usize;
-    let form = row / 0x10_0000_0000 % 16;
-    let one = (row / 0x1000_0000 % 256) as usize;
-    let two = (row / 0x10_0000 % 256) as usize;
-    let a = text_out::put_bytes(out, at, part(words, from, len));
-    put_value(out, a, form, one, two, numbers, texts)
+    let mut skip = 0;
+    for row in rows {
+        if skip > 0 {
+            skip -= 1;
+            continue;
+        }
+        match *row {
+            Row::Words(when, word) => {
+                if holds(numbers, when) {
+                    out.put_bytes(word);
+                }
+            }
+            Row::Put(when, word, value) => {
+                if holds(numbers, when) {
+                    put_row(out, word, value, numbers, texts);
+                }
+            }
+            Row::Group(when, span) => {
+                if !holds(numbers, when) {
+                    skip = span;
+                }
+            }
+        }
+    }
+}
+
+// A word, and the value after it.
+fn put_row(out: &mut Output, word: &[u8], value: Value, numbers: &[u64], texts: &[u8])
+    ensures { Puts out.old out.new (word.now ++ value_text numbers.now texts.now (value_in value)) }
+{
+    out.put_bytes(word);
+    put_value(out, value, numbers, texts);
 }
 
 // Whether a row's test holds.
-fn holds(numbers: &[u64], row: u64) -> bool
-    ensures { result ≡ holds numbers.now (test_of row) }
+fn holds(numbers: &[u64], test: Test) -> bool
+    ensures { result ≡ holds numbers.now (test_in test) }
 {
-    let against = row / 0x1_0000_0000_0000 % 256;
-    let place = (row / 0x100_0000_0000 % 256) as usize;
-    let n = number_at(numbers, place);
-    let test = row / 0x100_0000_0000_0000 % 16;
     match test {
-        1 => n == against,
-        2 => n != against,
-        3 => n >= against,
-        4 => n < against,
-        _ => true,
+        Test::Always => true,
+        Test::Is(place, n) => number_at(numbers, place) == n,
+        Test::IsNot(place, n) => number_at(numbers, place) != n,
+        Test::Least(place, n) => number_at(numbers, place) >= n,
+        Test::Below(place, n) => number_at(numbers, place) < n,
     }
 }
 
-// A value: of a form, from a place, with a second place for a text's start.
-pub fn put_value(
-    out: &mut [u8],
-    at: usize,
-    form: u64,
-    one: usize,
-    two: usize,
-    numbers: &[u64],
-    texts: &[u8],
-) -> usize
-    ensures { text result out.new
-        ≡ put (text at out.old) (value_text numbers.now texts.now (value_in form one two)) }
+// A value. Inlined, so that a form that the caller names is not looked up.
+#[inline(always)]
+pub fn put_value(out: &mut Output, value: Value, numbers: &[u64], texts: &[u8])
+    ensures { Puts out.old out.new (value_text numbers.now texts.now (value_in value)) }
 {
-    let n = number_at(numbers, one);
-    match form {
-        1 => text_out::put_decimal(out, at, n),
-        2 => face_values::put_signed(out, at, n),
-        3 => face_values::put_tenths(out, at, n),
-        4 => face_values::put_degrees(out, at, n),
-        5 => face_values::put_quoted(out, at, part(texts, two, n as usize)),
-        6 => face_values::put_shown(out, at, part(texts, two, n as usize)),
-        7 => text_out::put_word(out, at, (n % 4294967296) as u32),
-        8 => face_values::put_quoted(out, at, &[(n % 256) as u8]),
-        9 => face_values::put_pair(out, at, n),
-        10 => face_values::put_rate(out, at, n),
-        _ => at,
+    match value {
+        Value::Number(place) => out.put_decimal(number_at(numbers, place)),
+        Value::Signed(place) => face_values::put_signed(out, number_at(numbers, place)),
+        Value::Tenths(place) => face_values::put_tenths(out, number_at(numbers, place)),
+        Value::Degrees(place) => face_values::put_degrees(out, number_at(numbers, place)),
+        Value::Quoted(place, start) => {
+            let n = number_at(numbers, place);
+            face_values::put_quoted(out, part(texts, start, n as usize))
+        }
+        Value::Hexed(place, start) => {
+            let n = number_at(numbers, place);
+            face_values::put_shown(out, part(texts, start, n as usize))
+        }
+        Value::Pattern(place) => {
+            let n = number_at(numbers, place);
+            out.put_word((n % 4294967296) as u32)
+        }
+        Value::Letter(place) => {
+            let n = number_at(numbers, place);
+            face_values::put_quoted(out, &[(n % 256) as u8])
+        }
+        Value::Pair(place) => face_values::put_pair(out, number_at(numbers, place)),
+        Value::Float(place) => face_values::put_rate(out, number_at(numbers, place)),
     }
 }
 

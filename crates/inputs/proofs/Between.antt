@@ -1,41 +1,34 @@
 -- What is given back between two lines, from what the calls of `stream` give. Assumes nothing.
-use Prim.Native.Nat.{ℕ}
-use mathlib.Core.Path.{◌≡◌, refl}
-use mathlib.Core.Bool.{Bool, true, false}
-use mathlib.Core.List.{List}
+use Rattle.std.proofs.Common.{ℕ, ◌≡◌, refl, Bool, true, false, List, Ok, Err, arith}
 use lib.Dec.{leb}
-use Rattle.stream.specs.declared.Came.{Came}
-use Rattle.stream.specs.declared.Filled.{Filled}
-use Rattle.stream.specs.Moves.{Fills}
+use Rattle.stream.specs.declared.Failure.{Failure}
 use Rattle.inputs.specs.declared.Source.{Source}
 use Rattle.inputs.specs.declared.Way.{Way}
-use Rattle.inputs.specs.Goes.{source_of, Brought, Reads, Empties}
+use Rattle.std.specs.Prelude.{Result}
+use Rattle.inputs.specs.Goes.{Brought, Reads, ReadsOn, Empties}
 
-module _ (source : Source) (used : ℕ) (f : Filled) (block : List ℕ) {s : Source} (fills : Fills source.input f block)
-    (is : s ≡ source_of f.input source.from source.place) where
-  read_by : (way : Way) (n : ℕ) → Brought way f.input.filled used n → Reads source used (record { source = s; used = n; way = way }) block
-  read_by way n b =
-      rw is
-      (record {
-        held_kept = fills.held_kept;
-        is_at_start = fills.is_at_start;
-        is_in_block = fills.is_in_block;
-        same_from = refl;
-        same_place = refl;
-        came = b;
-      })
+module _ (source : Source) (used : ℕ) (s : Source) (came : Result ℕ Failure) (block : List ℕ) (reads : ReadsOn source s came block) where
+  read_by : (way : Way) (n : ℕ) → Brought way s.input.filled used n → Reads source used (record { source = s; used = n; way = way }) block
+  read_by way n b = record {
+    held_kept = reads.fills.held_kept;
+    is_at_start = reads.fills.is_at_start;
+    is_in_block = reads.fills.is_in_block;
+    same_from = reads.same_from;
+    same_place = reads.same_place;
+    came = b;
+  }
 
-  pub read_more : f.came ≡ Came.More → Reads source used (record { source = s; used = 0; way = Way.On }) block
-  read_more e = read_by Way.On 0 (rw e at fills.some, refl)
+  pub read_more : (n : ℕ) → came ≡ Ok n → (n ≡ 0 → ⊥) → Reads source used (record { source = s; used = 0; way = Way.On }) block
+  read_more n e more = let filled = rw e at reads.fills.some in read_by Way.On 0 (omega (arith, filled, more), refl)
 
-  pub read-end : f.came ≡ Came.End → Reads source used (record { source = s; used = 0; way = Way.Last }) block
-  read-end e = read_by Way.Last 0 (rw e at fills.some, refl)
+  pub read-end : came ≡ Ok 0 → Reads source used (record { source = s; used = 0; way = Way.Last }) block
+  read-end e = read_by Way.Last 0 (rw e at reads.fills.some, refl)
 
-  pub not-read : {e : _} → f.came ≡ Came.Unread e → Reads source used (record { source = s; used = 0; way = Way.Stopped }) block
-  not-read e = read_by Way.Stopped 0 (rw e at fills.some, refl)
+  pub not-read : {e : _} → came ≡ Err (Failure.Unread e) → Reads source used (record { source = s; used = 0; way = Way.Stopped }) block
+  not-read e = read_by Way.Stopped 0 (rw e at reads.fills.some, refl)
 
-  pub not_written : {e : _} → f.came ≡ Came.Unwritten e → Reads source used (record { source = s; used = used; way = Way.Failed }) block
-  not_written e = read_by Way.Failed used (rw e at fills.some, refl)
+  pub not_written : {e : _} → came ≡ Err (Failure.Unwritten e) → Reads source used (record { source = s; used = used; way = Way.Failed }) block
+  not_written e = read_by Way.Failed used (rw e at reads.fills.some, refl)
 
 module _ (source : Source) (used : ℕ) {full : Bool} (is : full ≡ leb 49152 used) where
   pub is-written : full ≡ true → Empties source used (record { source = source; used = 0; way = Way.On })

@@ -1,15 +1,18 @@
 -- What can be promised of what is done between two lines: of what is read and written no promise can speak.
-use Rattle.std.specs.Prelude.{ℕ, ◌≤◌, ◌<◌, ◌≡◌, Bool, true, false, List, leb, length}
+use Rattle.std.specs.Prelude.{ℕ, ◌<◌, ◌≤◌, ◌≡◌, Bool, true, false, List, Option, Result, leb, length, ⊤}
 use Rattle.refusal.specs.Words.{pick}
 use Rattle.stream.specs.declared.Input.{Input}
 use Rattle.stream.specs.declared.Next.{Next}
+use Rattle.stream.specs.declared.Failure.{Failure}
 use Rattle.stream.specs.Next.{at_start}
+use Rattle.stream.specs.Moves.{Fills}
 use Rattle.inputs.specs.declared.Origin.{Origin}
 use Rattle.inputs.specs.declared.Source.{Source}
 use Rattle.inputs.specs.declared.Way.{Way}
+use Rattle.inputs.specs.declared.Status.{Status}
 use Rattle.inputs.specs.declared.Gone.{Gone}
 
-abbrev pub source_of : Input → Origin → ℕ → Source
+abbrev pub source_of : Input → Origin → Option ℕ → Source
 source_of input from place = record { input = input; from = from; place = place }
 
 abbrev pub is_on : Way → Bool
@@ -62,6 +65,12 @@ pub record Reads (source : Source) (used : ℕ) (r : Gone) (block : List ℕ) : 
   pub same_place : r.source.place ≡ source.place
   pub came : Brought r.way r.source.input.filled used r.used
 
+-- the same of the call that reads, in the source that is lent to it
+pub record ReadsOn (before after : Source) (came : Result ℕ Failure) (block : List ℕ) : Type 0 where
+  pub fills : Fills before.input after.input came block
+  pub same_from : after.from ≡ before.from
+  pub same_place : after.place ≡ before.place
+
 -- by what came: a line, one that is too long, nothing, or too short a buffer for a line, which stops the run
 abbrev pub GoesOn : Source → Next → ℕ → Gone → List ℕ → Type 0
 GoesOn source (Next.Line n) used r block = Empties source used r
@@ -74,10 +83,16 @@ abbrev pub Goes : Bool → Source → Next → ℕ → Gone → List ℕ → Typ
 Goes true source next used r block = Opens used r
 Goes false source next used r block = GoesOn source next used r block
 
--- the status at the end: 1 where a call failed, also the last write; what was told before an input failed is still written
-abbrev pub Finishes : Way → ℕ → Type 0
-Finishes Way.On r = r ≡ 1
-Finishes Way.Last r = r ≡ 1
-Finishes Way.Ended r = r ≤ 1
-Finishes Way.Stopped r = r ≡ 1
-Finishes Way.Failed r = r ≡ 1
+-- a status other than that of a wrong word
+abbrev pub IsOfARun : Status → Type 0
+IsOfARun Status.Well = ⊤
+IsOfARun Status.Failed = ⊤
+IsOfARun Status.Wrong = ⊥
+
+-- the status at the end: that of a call that failed where one did, also the last write; what was told before an input failed is still written
+abbrev pub Finishes : Way → Status → Type 0
+Finishes Way.On r = r ≡ Status.Failed
+Finishes Way.Last r = r ≡ Status.Failed
+Finishes Way.Ended r = IsOfARun r
+Finishes Way.Stopped r = r ≡ Status.Failed
+Finishes Way.Failed r = r ≡ Status.Failed

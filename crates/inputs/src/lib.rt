@@ -2,19 +2,19 @@
 // the launcher is told. What the system's calls do is assumed.
 #![tactic(auto)]
 
-ghost use Rattle.std.specs.Prelude.{◌≡◌, ◌≤◌};
+ghost use Rattle.std.specs.Prelude.{◌≡◌, length};
 ghost use Rattle.std.specs.Io.{ReadsAtMost};
-ghost use Rattle.text_out.specs.Text.{text, put};
+ghost use Rattle.text_out.specs.Output.{Puts};
 ghost use Rattle.inputs.specs.Words.{IsPrefixLen, word_of, is_input, unknown_text, named_text};
-ghost use Rattle.inputs.specs.Goes.{is_on, is_last, source_of, Opens, Empties, Reads, Goes, Finishes};
-ghost use Rattle.stream.specs.Moves.{Fills};
+ghost use Rattle.inputs.specs.Goes.{is_on, is_last, source_of, Opens, Empties, Reads, ReadsOn, Goes, IsOfARun, Finishes};
 
 use std::env::FillError;
 use std::fs;
 use std::fs::{File, OpenOptions};
 use std::io::{Error, Read, Result, Stdin};
 use std::rt::Env;
-use stream::{Came, Filled, Input, Next};
+use stream::{Failure, Input, Next, Teller};
+use text_out::Output;
 
 // What a word asks: the usage; that the launcher is told the status; an option of the program's own; or an input, a file by its name or `-`.
 #[derive(Clone, Copy)]
@@ -23,6 +23,14 @@ pub enum Word {
     Status,
     Option,
     Input,
+}
+
+// How a program ended: all went well, a call failed, or a word of its command line was wrong.
+#[derive(Clone, Copy)]
+pub enum Status {
+    Well,
+    Failed,
+    Wrong,
 }
 
 // The descriptor that the launcher reads the status from, by its name in the system's files.
@@ -40,10 +48,10 @@ const EILSEQ: i32 = 84;
 pub fn word_of(word: &[u8]) -> Word
     ensures { result ≡ word_of word.now }
 {
-    if lines::texts::same(word, b"--help") {
+    if word == b"--help".as_slice() {
         return Word::Help;
     }
-    if lines::texts::same(word, b"--status") {
+    if word == b"--status".as_slice() {
         return Word::Status;
     }
     if is_input(word) {
@@ -81,48 +89,46 @@ fn is_past_end(rt: &HostRuntime, place: usize) -> bool {
     }
 }
 
-// Puts the word at a place of the command line first in `word`, and answers its length: 0 where there is none, or it is longer than `word`.
-pub fn arg(rt: &HostRuntime, place: usize, word: &mut [u8]) -> usize
-    ensures { IsPrefixLen result word.new }
+// The word at a place of the command line, put first in `word`: none of it where there is none, or it is longer than `word`.
+pub fn arg<'a>(rt: &HostRuntime, place: usize, word: &'a mut [u8]) -> &'a [u8]
+    ensures { IsPrefixLen (length result.now) word.old }
 {
-    match rt.arg(place, word) {
-        Ok(n) => text_out::up_to(n, word),
-        Err(_) => 0,
-    }
+    let n = rt.arg(place, word).unwrap_or(0);
+    &word[..n]
 }
 
-// The usage, on standard output. Answers the status: 1 where it could not be written.
-pub fn put_usage(rt: &HostRuntime, text: &[u8]) -> u8
-    ensures { result ≤ 1 }
+// The usage, on standard output. Answers the status.
+pub fn put_usage(rt: &HostRuntime, text: &[u8]) -> Status
+    ensures { IsOfARun result }
 {
     if stream::write_out(rt, &mut rt.stdout(), text, text.len()).is_ok() {
-        0
+        Status::Well
     } else {
-        1
+        Status::Failed
     }
 }
 
 // Whether argument i, where it names a file, can be read. Where it cannot, the system's reason is said on standard error.
-fn is_readable(rt: &HostRuntime, program: &[u8], i: usize) -> bool {
+fn is_readable(teller: &Teller, i: usize) -> bool {
     let mut path = [0u8; 4096];
-    match rt.arg(i, &mut path) {
-        Ok(n) => is_word_readable(rt, program, &path[..n]),
+    match teller.rt.arg(i, &mut path) {
+        Ok(n) => is_word_readable(teller, &path[..n]),
         Err(_) => {
-            say_name(rt, program, &path, Error::from_raw_os_error(ENAMETOOLONG));
+            say_name(teller, &path, Error::from_raw_os_error(ENAMETOOLONG));
             false
         }
     }
 }
 
 // Whether a word, where it names a file, can be read.
-fn is_word_readable(rt: &HostRuntime, program: &[u8], word: &[u8]) -> bool {
+fn is_word_readable(teller: &Teller, word: &[u8]) -> bool {
     if !is_file(word) {
         return true;
     }
-    match may_read(rt, word) {
+    match may_read(teller.rt, word) {
         Ok(()) => true,
         Err(error) => {
-            say_name(rt, program, word, error);
+            say_name(teller, word, error);
             false
         }
     }
@@ -130,10 +136,7 @@ fn is_word_readable(rt: &HostRuntime, program: &[u8], word: &[u8]) -> bool {
 
 // Whether a word names a file.
 fn is_file(word: &[u8]) -> bool {
-    if lines::texts::same(word, b"-") {
-        return false;
-    }
-    is_input(word)
+    word != b"-".as_slice() && is_input(word)
 }
 
 // Whether a word is the name of a file that may be read, or why it is not. A file or a folder is opened for that, and closed; another, as a pipe or a
@@ -149,10 +152,7 @@ fn may_read(rt: &HostRuntime, word: &[u8]) -> Result<()> {
 
 // A word as a path: std opens names that are text.
 fn path_of(word: &[u8]) -> Result<&str> {
-    match str::from_utf8(word) {
-        Ok(path) => Ok(path),
-        Err(_) => Err(Error::from_raw_os_error(EILSEQ)),
-    }
+    str::from_utf8(word).map_err(|_| Error::from_raw_os_error(EILSEQ))
 }
 
 // What an input is read from: standard input; a file; or nothing, where none could be opened or it was closed.
@@ -196,13 +196,13 @@ fn read_file(file: &File, buf: &mut [u8]) -> Result<usize>
     from.read(buf)
 }
 
-// Where lines come from: how far the input was taken, what it is read from, and the place of the word that names it, which is 0 for standard input where
+// Where lines come from: how far the input was taken, what it is read from, and the place of the word that names it, which is none for standard input where
 // no word names an input.
 #[derive(Drop)]
 pub struct Source {
     pub input: Input,
     pub from: Origin,
-    pub place: usize,
+    pub place: Option<usize>,
 }
 
 // How far a run is: on its way; at the end of an input, of which what is held is the last line; at the end of all; stopped by an input that could not be
@@ -229,143 +229,110 @@ pub fn taken(source: Source, input: Input) -> Source
     ensures { result ≡ source_of input source.from source.place }
 {
     Source {
-        input: input,
+        input,
         from: source.from,
         place: source.place,
     }
 }
 
 // The first input: that of the first word that names one, or standard input where none does.
-pub fn first_input(rt: &HostRuntime, program: &[u8], named: bool) -> Gone
+pub fn first_input(teller: &Teller, named: bool) -> Gone
     ensures { Opens 0 result }
 {
     if named {
-        return input_from(rt, program, 0, 1, 0);
+        return input_from(teller, 1, 0);
     }
-    begun(Origin::Standard(rt.stdin()), 0, 0, Way::On)
+    begun(Origin::Standard(teller.rt.stdin()), None, 0, Way::On)
 }
 
-// The next input, where a word names one more; the one before is closed. Its lines go on from `number`.
-fn next_input(rt: &HostRuntime, program: &[u8], number: u64, source: Source, used: usize) -> Gone
+// The next input, where a word names one more; the one before is closed.
+fn next_input(teller: &Teller, source: Source, used: usize) -> Gone
     ensures { Opens used result }
 {
-    let place = source.place;
-    if place == 0 {
-        return begun(source.from, place, used, Way::Ended);
-    }
+    let Some(place) = source.place else {
+        return begun(source.from, None, used, Way::Ended);
+    };
     drop(source);
-    if place < usize::MAX {
-        return input_from(rt, program, number, place + 1, used);
-    }
-    begun(Origin::Closed, place, used, Way::Ended)
+    input_from(teller, place.saturating_add(1), used)
 }
 
 // The input of the first word from a place on that names one.
-fn input_from(rt: &HostRuntime, program: &[u8], number: u64, from: usize, used: usize) -> Gone
+fn input_from(teller: &Teller, from: usize, used: usize) -> Gone
     ensures { Opens used result }
 {
-    let place = named_from(rt, from);
-    if place == 0 {
-        return begun(Origin::Closed, place, used, Way::Ended);
-    }
+    let named = named_from(teller.rt, from);
+    let Some(place) = named else {
+        return begun(Origin::Closed, None, used, Way::Ended);
+    };
     let mut name = [0u8; 4096];
-    let n = name_of(rt, place, &mut name);
-    match open(rt, place, &name[..n]) {
-        Ok(opened) => begun(opened, place, used, Way::On),
+    let word = arg(teller.rt, place, &mut name);
+    match open(teller.rt, place, word) {
+        Ok(opened) => begun(opened, named, used, Way::On),
         Err(error) => {
-            stream::say_failure(rt, program, number, b"opening", &name[..n], error);
-            begun(Origin::Closed, place, used, Way::Stopped)
+            stream::say_failure(teller, b"opening", word, error);
+            begun(Origin::Closed, named, used, Way::Stopped)
         }
     }
 }
 
 // A run at the start of an input, on its way or not.
-fn begun(from: Origin, place: usize, used: usize, way: Way) -> Gone
+fn begun(from: Origin, place: Option<usize>, used: usize, way: Way) -> Gone
     ensures { Opens used result }
 {
-    let input = stream::start();
     let source = Source {
-        input: input,
-        from: from,
-        place: place,
+        input: stream::start(),
+        from,
+        place,
     };
-    Gone {
-        source: source,
-        used: used,
-        way: way,
-    }
+    Gone { source, used, way }
 }
 
-// The place of the first word from a place on that names an input, or 0.
-fn named_from(rt: &HostRuntime, from: usize) -> usize {
-    let mut i = from;
-    while i < usize::MAX {
-        if is_past_end(rt, i) {
-            return 0;
-        }
-        if is_named(rt, i) {
-            return i;
-        }
-        i += 1;
-    }
-    0
+// The place of the first word from a place on that names an input.
+fn named_from(rt: &HostRuntime, from: usize) -> Option<usize> {
+    (from..arg_count(rt)).find(|&i| is_named(rt, i))
 }
 
 // Whether the word at a place names an input.
 fn is_named(rt: &HostRuntime, place: usize) -> bool {
     let mut word = [0u8; 4096];
-    let n = arg(rt, place, &mut word);
-    is_input(&word[..n])
+    is_input(arg(rt, place, &mut word))
 }
 
-// Puts the name of the input of a place first in `name`, and answers its length.
-fn name_of(rt: &HostRuntime, place: usize, name: &mut [u8]) -> usize
-    ensures { IsPrefixLen result name.new }
-{
-    if place == 0 {
-        let end = text_out::put_bytes(name, 0, b"standard input");
-        return text_out::up_to(end, name);
+// The name of the input of a place, which is put first in `name` where it is a word.
+fn name_of<'a>(rt: &HostRuntime, place: Option<usize>, name: &'a mut [u8]) -> &'a [u8] {
+    match place {
+        Some(place) => arg(rt, place, name),
+        None => b"standard input",
     }
-    arg(rt, place, name)
 }
 
 // What the input is read from that the word at a place names, or why it cannot be opened. Standard input is closed after its end, so that only the first
 // word that names it can read it.
 fn open(rt: &HostRuntime, place: usize, word: &[u8]) -> Result<Origin> {
-    if lines::texts::same(word, b"-") {
-        if is_read_before(rt, place) {
-            return Ok(Origin::Closed);
-        }
-        return Ok(Origin::Standard(rt.stdin()));
+    if word != b"-".as_slice() {
+        return Ok(Origin::Named(File::open(rt, path_of(word)?)?));
     }
-    Ok(Origin::Named(File::open(rt, path_of(word)?)?))
+    if is_read_before(rt, place) {
+        return Ok(Origin::Closed);
+    }
+    Ok(Origin::Standard(rt.stdin()))
 }
 
 // Whether a word before a place names standard input.
 fn is_read_before(rt: &HostRuntime, place: usize) -> bool {
-    let mut i = 1;
-    while i < place {
-        if is_standard(rt, i) {
-            return true;
-        }
-        i += 1;
-    }
-    false
+    (1..place).any(|i| is_standard(rt, i))
 }
 
 // Whether the word at a place names standard input.
 fn is_standard(rt: &HostRuntime, place: usize) -> bool {
     let mut word = [0u8; 4096];
-    let n = arg(rt, place, &mut word);
-    lines::texts::same(&word[..n], b"-")
+    arg(rt, place, &mut word) == b"-".as_slice()
 }
 
 // After a line the output buffer is written where it is nearly full; where no line came, it is written and the block is read anew. After the last line of
 // an input comes the next input.
 pub fn go_on(
-    rt: &HostRuntime,
-    program: &[u8],
-    number: u64,
+    teller: &Teller,
     source: Source,
     ended: bool,
     next: Next,
@@ -376,17 +343,17 @@ pub fn go_on(
     ensures { Goes ended source next used result block.new }
 {
     if ended {
-        return next_input(rt, program, number, source, used);
+        return next_input(teller, source, used);
     }
     match next {
-        Next::Line(_) => write_full(rt, program, number, source, used, out),
-        Next::TooLong => write_full(rt, program, number, source, used, out),
-        Next::Nothing => read_on(rt, program, number, source, used, block, out),
+        Next::Line(_) => write_full(teller, source, used, out),
+        Next::TooLong => write_full(teller, source, used, out),
+        Next::Nothing => read_on(teller, source, used, block, out),
         Next::Room => {
-            say_room(rt, program, number, source.place);
+            say_room(teller, source.place);
             Gone {
-                source: source,
-                used: used,
+                source,
+                used,
                 way: Way::Stopped,
             }
         }
@@ -394,93 +361,75 @@ pub fn go_on(
 }
 
 // Writes the output buffer where it is nearly full.
-fn write_full(
-    rt: &HostRuntime,
-    program: &[u8],
-    number: u64,
-    source: Source,
-    used: usize,
-    out: &[u8],
-) -> Gone
+fn write_full(teller: &Teller, source: Source, used: usize, out: &[u8]) -> Gone
     ensures { Empties source used result }
 {
-    if stream::is_full(used) {
-        if write_out(rt, program, number, out, used) {
-            return Gone {
-                source: source,
-                used: 0,
-                way: Way::On,
-            };
-        }
+    if !stream::is_full(used) {
         return Gone {
-            source: source,
-            used: used,
-            way: Way::Failed,
+            source,
+            used,
+            way: Way::On,
+        };
+    }
+    if write_out(teller, out, used) {
+        return Gone {
+            source,
+            used: 0,
+            way: Way::On,
         };
     }
     Gone {
-        source: source,
-        used: used,
-        way: Way::On,
+        source,
+        used,
+        way: Way::Failed,
     }
 }
 
 // Writes what is in use of the output buffer, and says where that fails.
-fn write_out(rt: &HostRuntime, program: &[u8], number: u64, out: &[u8], used: usize) -> bool {
-    match stream::write_out(rt, &mut rt.stdout(), out, used) {
+fn write_out(teller: &Teller, out: &[u8], used: usize) -> bool {
+    match stream::write_out(teller.rt, &mut teller.rt.stdout(), out, used) {
         Ok(()) => true,
         Err(error) => {
-            say_unwritten(rt, program, number, error);
+            say_unwritten(teller, error);
             false
         }
     }
 }
 
 // Says on standard error that standard output could not be written.
-fn say_unwritten(rt: &HostRuntime, program: &[u8], number: u64, error: Error) {
-    stream::say_failure(rt, program, number, b"writing", b"standard output", error);
+fn say_unwritten(teller: &Teller, error: Error) {
+    stream::say_failure(teller, b"writing", b"standard output", error);
 }
 
 // Writes the output buffer, so that all that was told is seen before anything is waited for, and reads the block anew.
-fn read_on(
-    rt: &HostRuntime,
-    program: &[u8],
-    number: u64,
-    source: Source,
-    used: usize,
-    block: &mut [u8],
-    out: &[u8],
-) -> Gone
+fn read_on(teller: &Teller, source: Source, used: usize, block: &mut [u8], out: &[u8]) -> Gone
     ensures { Reads source used result block.new }
 {
-    let f = read_from(rt, &source, used, block, out);
-    let place = source.place;
-    let rest = taken(source, f.input);
-    let came = f.came;
-    match came {
-        Came::More => Gone {
-            source: rest,
-            used: 0,
-            way: Way::On,
-        },
-        Came::End => Gone {
-            source: rest,
+    let mut source = source;
+    match read_from(teller.rt, &mut source, used, block, out) {
+        Ok(0) => Gone {
+            source,
             used: 0,
             way: Way::Last,
         },
-        Came::Unread(error) => {
-            say_unread(rt, program, number, place, error);
+        Ok(_) => Gone {
+            source,
+            used: 0,
+            way: Way::On,
+        },
+        Err(Failure::Unread(error)) => {
+            say_unread(teller, source.place, error);
             Gone {
-                source: rest,
+                source,
                 used: 0,
                 way: Way::Stopped,
             }
         }
-        Came::Unwritten(error) => {
-            say_unwritten(rt, program, number, error);
+        Err(Failure::Unwritten(error)) => {
+            say_unwritten(teller, error);
             Gone {
-                source: rest,
-                used: used,
+                source,
+                used,
                 way: Way::Failed,
             }
         }
@@ -488,13 +437,19 @@ fn read_on(
 }
 
 // Writes the output buffer to standard output and reads the block anew from a source.
-fn read_from(rt: &HostRuntime, source: &Source, used: usize, block: &mut [u8], out: &[u8]) -> Filled
-    ensures { Fills source.now.input result block.new }
+fn read_from(
+    rt: &HostRuntime,
+    source: &mut Source,
+    used: usize,
+    block: &mut [u8],
+    out: &[u8],
+) -> std::result::Result<usize, Failure>
+    ensures { ReadsOn source.old source.new result block.new }
 {
     let mut from = &source.from;
     stream::read_on(
         rt,
-        source.input,
+        &mut source.input,
         &mut from,
         block,
         &mut rt.stdout(),
@@ -504,133 +459,113 @@ fn read_from(rt: &HostRuntime, source: &Source, used: usize, block: &mut [u8], o
 }
 
 // Says on standard error that the input of a place could not be read.
-fn say_unread(rt: &HostRuntime, program: &[u8], number: u64, place: usize, error: Error) {
+fn say_unread(teller: &Teller, place: Option<usize>, error: Error) {
     let mut name = [0u8; 4096];
-    let n = name_of(rt, place, &mut name);
-    stream::say_failure(rt, program, number, b"reading", &name[..n], error);
+    stream::say_failure(
+        teller,
+        b"reading",
+        name_of(teller.rt, place, &mut name),
+        error,
+    );
 }
 
 // Says on standard error that a program lent too short a buffer for a line.
-fn say_room(rt: &HostRuntime, program: &[u8], number: u64, place: usize) {
+fn say_room(teller: &Teller, place: Option<usize>) {
     let mut name = [0u8; 4096];
-    let n = name_of(rt, place, &mut name);
     stream::say_failure(
-        rt,
-        program,
-        number,
+        teller,
         b"a line's buffer is too short for",
-        &name[..n],
+        name_of(teller.rt, place, &mut name),
         Error::from_raw_os_error(0),
     );
 }
 
-// At the end of a run: what was told and is not written yet is written. Answers the status: 0 where all went well, 1 where a call failed.
-pub fn finish(
-    rt: &HostRuntime,
-    program: &[u8],
-    number: u64,
-    way: Way,
-    out: &[u8],
-    used: usize,
-) -> u8
+// At the end of a run: what was told and is not written yet is written. Answers the status.
+pub fn finish(teller: &Teller, way: Way, out: &[u8], used: usize) -> Status
     ensures { Finishes way result }
 {
     match way {
-        Way::On => return 1,
-        Way::Last => return 1,
-        Way::Failed => return 1,
+        Way::On | Way::Last | Way::Failed => Status::Failed,
         Way::Stopped => {
-            write_out(rt, program, number, out, used);
-            return 1;
+            write_out(teller, out, used);
+            Status::Failed
         }
         Way::Ended => {
-            if write_out(rt, program, number, out, used) {
-                return 0;
+            if write_out(teller, out, used) {
+                Status::Well
+            } else {
+                Status::Failed
             }
         }
     }
-    1
 }
 
 // Whether a run goes on.
 pub fn is_on(way: Way) -> bool
     ensures { result ≡ is_on way }
 {
-    match way {
-        Way::On => true,
-        Way::Last => true,
-        Way::Ended => false,
-        Way::Stopped => false,
-        Way::Failed => false,
-    }
+    matches!(way, Way::On | Way::Last)
 }
 
 // Whether a run is at the end of an input, of which what is held is the last line.
 pub fn is_last(way: Way) -> bool
     ensures { result ≡ is_last way }
 {
-    match way {
-        Way::On => false,
-        Way::Last => true,
-        Way::Ended => false,
-        Way::Stopped => false,
-        Way::Failed => false,
-    }
+    matches!(way, Way::Last)
 }
 
 // Whether every file that the words name can be read; the first that cannot is said.
-pub fn are_readable(rt: &HostRuntime, program: &[u8]) -> bool {
-    let count = arg_count(rt);
-    let mut i = 1;
-    while i < count {
-        if !is_readable(rt, program, i) {
-            return false;
-        }
-        i += 1;
-    }
-    true
+pub fn are_readable(teller: &Teller) -> bool {
+    (1..arg_count(teller.rt)).all(|i| is_readable(teller, i))
 }
 
 // Says on standard error that argument i is no option of the program's.
-pub fn say_unknown(rt: &HostRuntime, program: &[u8], i: usize) {
+pub fn say_unknown(teller: &Teller, i: usize) {
     let mut name = [0u8; 4096];
-    let n = arg(rt, i, &mut name);
-    let mut words = [0u8; 4352];
-    let end = put_unknown(&mut words, 0, program, &name[..n]);
-    stream::say(rt, &words, end);
+    let word = arg(teller.rt, i, &mut name);
+    let mut buffer = [0u8; 4352];
+    let mut words = Output::new(&mut buffer, 0);
+    put_unknown(&mut words, teller.program, word);
+    let end = words.at;
+    stream::say(teller.rt, words.buffer, end);
 }
 
 // The words of it.
-pub fn put_unknown(out: &mut [u8], at: usize, program: &[u8], name: &[u8]) -> usize
-    ensures { text result out.new ≡ put (text at out.old) (unknown_text program.now name.now) }
+pub fn put_unknown(out: &mut Output, program: &[u8], name: &[u8])
+    ensures { Puts out.old out.new (unknown_text program.now name.now) }
 {
-    let a = text_out::put_bytes(out, at, program);
-    let b = text_out::put_bytes(out, a, b": unknown option: ");
-    let c = text_out::put_bytes(out, b, name);
-    text_out::put_bytes(out, c, b" (--help lists them)\n")
+    out.put_bytes(program);
+    out.put_bytes(b": unknown option: ");
+    out.put_bytes(name);
+    out.put_bytes(b" (--help lists them)\n");
 }
 
 // Says on standard error the system's reason why a file cannot be read.
-fn say_name(rt: &HostRuntime, program: &[u8], name: &[u8], error: Error) {
-    let mut words = [0u8; 4352];
-    let end = put_name(&mut words, 0, program, name);
-    stream::fail(rt, &words, end, error);
+fn say_name(teller: &Teller, name: &[u8], error: Error) {
+    let mut buffer = [0u8; 4352];
+    let mut words = Output::new(&mut buffer, 0);
+    put_name(&mut words, teller.program, name);
+    stream::fail(teller.rt, &words, error);
 }
 
 // The words before the system's reason.
-pub fn put_name(out: &mut [u8], at: usize, program: &[u8], name: &[u8]) -> usize
-    ensures { text result out.new ≡ put (text at out.old) (named_text program.now name.now) }
+pub fn put_name(out: &mut Output, program: &[u8], name: &[u8])
+    ensures { Puts out.old out.new (named_text program.now name.now) }
 {
-    let a = text_out::put_bytes(out, at, program);
-    let b = text_out::put_bytes(out, a, b": ");
-    text_out::put_bytes(out, b, name)
+    out.put_bytes(program);
+    out.put_bytes(b": ");
+    out.put_bytes(name);
 }
 
-// Tells the launcher the status that the program cannot end with itself: 0 for all went well, 1 for a call that failed, 2 for a wrong word.
-pub fn tell_status(rt: &HostRuntime, status: u8) {
-    let digit = [b'0' + status % 10, b'\n'];
+// Tells the launcher the status that the program cannot end with itself.
+pub fn tell_status(rt: &HostRuntime, status: Status) {
+    let digit = match status {
+        Status::Well => b"0\n",
+        Status::Failed => b"1\n",
+        Status::Wrong => b"2\n",
+    };
     if let Ok(told) = OpenOptions::new().append(true).open(rt, STATUS_FILE) {
         let mut to = told;
-        let _ = stream::write_out(rt, &mut to, &digit, digit.len());
+        let _ = stream::write_out(rt, &mut to, digit, digit.len());
     }
 }

@@ -4,13 +4,13 @@ use native.Mathlib.Omega.{arith}
 use mathlib.Core.Path.{◌≡◌, refl, ap, ◌∙◌}
 use mathlib.Core.List.{List, ◌++◌}
 use lib.ListN.{length, replicate, length-append}
+use Rattle.std.specs.Prelude.{Ok, Err}
 use Rattle.refusal.specs.Words.{pick, Told, taken, refused, Check, checked, on_taken}
 use Rattle.armour.specs.Armour.{unarmored}
 use Rattle.messages.specs.Messages.{no_message, message_by, type_of}
 use Rattle.messages.specs.declared.AisMessage.{AisMessage}
 use Rattle.messages.specs.declared.Message.{Message}
-use Rattle.sentence.specs.Line.{parsed_of, payload_of}
-use Rattle.sentence.specs.declared.Parsed.{Parsed}
+use Rattle.sentence.specs.Line.{parsed_of, payload_of, Parsed}
 use Rattle.reassembly.specs.declared.Record.{Record}
 use Rattle.answer.specs.declared.Decode.{Decode}
 use Rattle.answer.specs.Answer.{Progress, complete, unfinished}
@@ -53,11 +53,11 @@ taken_sound (refused n values) m h = tt
 
 module _ (r : Record) (line : List ℕ) (payload bits : List ℕ) (checks : List Check) where
   by-parsed : (p : Parsed) → Sound (call_by checks r line Decode.On p payload bits).message
-  by-parsed (Parsed.Sentence s) =
+  by-parsed (Ok s) =
       let d = unarmored (handed_of r s (payload_of line s)) s.fill_bit_count in
       let t = checked checks (taken (progress_of (part_of_line s))) in
       taken_sound t (pick (decodes Decode.On s) (message_by (type_of d) d) no_message) (on-pick Sound (decodes Decode.On s) (decoded_sound (type_of d) d) tt)
-  by-parsed (Parsed.Bad place) = tt
+  by-parsed (Err broken) = tt
 
 pub read_sound : (r : Record) (line : List ℕ) → Sound (read_of r line).message
 unfolding read_of called_of

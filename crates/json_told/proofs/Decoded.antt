@@ -1,5 +1,6 @@
 -- Every message that is decoded holds what the tables need, whatever its bytes: the numbers fit, an unknown part is neither 0 nor 1, a text has at most
 -- twenty characters, and a list at most two. Assumes nothing.
+use Rattle.std.specs.Prelude.{None, Some}
 use Prim.Native.Nat.{ℕ, ◌+◌, ◌/◌, ◌^◌, ◌≤◌, ◌<◌}
 use native.Mathlib.Omega.{arith}
 use mathlib.Core.Path.{◌≡◌, refl}
@@ -20,18 +21,18 @@ use Rattle.navigation.specs.declared.ManeuverIndicator.{ManeuverIndicator}
 use Rattle.position_report.specs.Table.{position_table}
 use Rattle.position_report.specs.Report.{report_with, report_of}
 use Rattle.static_data_report.specs.Table as static
-use Rattle.static_data_report.specs.StaticData.{too_short, no_text, no_texts, name_of, part_b_texts_of, report_of as static_of, read_by as read_static, static_data_of}
+use Rattle.std.specs.Prelude.{Result, Ok, Err}
+use Rattle.refusal.specs.declared.Refusal.{Refusal}
+use Rattle.static_data_report.specs.StaticData.{too_short, no_text, no_texts, name_of, part_b_texts_of, report_of as static_of, read_by as read_static, static_data_of, texts_in}
 use Rattle.static_data_report.specs.Sound.{ReportSound}
-use Rattle.static_data_report.specs.declared.Reported.{Reported}
 use Rattle.static_data_report.specs.declared.StaticData.{StaticData}
-use Rattle.static_data_report.specs.declared.Texts.{Texts}
 use Rattle.static_data_report.proofs.Lengths.{text-length}
 use Rattle.static_data_report.proofs.Sound.{sound}
 use Rattle.interrogation.specs.Table.{table, from, end}
 use Rattle.interrogation.specs.Interrogation.{no_message, padded, dropped, remains, message_at, first_at, the_second_at, another, messages_at, station_at, station_end}
 use Rattle.interrogation.specs.Interrogation.{the_head_in, station_in, tells_of, read_by, interrogated_of}
 use Rattle.interrogation.specs.declared.Message.{Message}
-use Rattle.interrogation.specs.declared.Interrogated.{Interrogated}
+use Rattle.interrogation.specs.declared.Interrogation.{Interrogation}
 use Rattle.messages.specs.Messages.{no_message as nothing, ends_position, the_position_in, static_in, the_asked_in, message_by}
 use Rattle.json_told.proofs.Sound.{TurnSound, ManoeuvreSound, PositionSound, TextSound, TextsSound, Few, no_one, only, two, StationSound, Sound}
 
@@ -48,8 +49,8 @@ manoeuvre_sound : (raw : ℕ) → ManoeuvreSound (manoeuvre_of raw)
 manoeuvre_sound raw = go (eqb raw 0) refl
   where
     go : (b : Bool) → eqb raw 0 ≡ b
-        → ManoeuvreSound (pick b ManeuverIndicator.Absent
-        (pick (eqb raw 1) ManeuverIndicator.NoSpecialManeuver (pick (eqb raw 2) ManeuverIndicator.SpecialManeuver (ManeuverIndicator.Unknown raw))))
+        → ManoeuvreSound (pick b None
+        (pick (eqb raw 1) (Some ManeuverIndicator.NoSpecialManeuver) (pick (eqb raw 2) (Some ManeuverIndicator.SpecialManeuver) (Some (ManeuverIndicator.Unknown raw)))))
     go true e = tt
     go false e = on-pick ManoeuvreSound (eqb raw 1) tt (on-pick ManoeuvreSound (eqb raw 2) tt (eqb-false raw 0 e))
 
@@ -83,7 +84,7 @@ none_sound = record { bytes = refl; len = omega arith }
 no_texts_sound : TextsSound no_texts
 no_texts_sound = record { name = none_sound; vendor = none_sound; model = none_sound; callsign = none_sound }
 
-texts_sound : (d : List ℕ) → TextsSound (static_data_of d).texts
+texts_sound : (d : List ℕ) → TextsSound (texts_in (static_data_of d))
 unfolding static_data_of read_static static_of name_of part_b_texts_of
 texts_sound d =
     let n = number_at d (static.table).part in
@@ -95,12 +96,12 @@ texts_sound d =
       model = text_sound d 66 24 (omega arith);
       callsign = text_sound d 90 42 (omega arith);
     } in
-    on-pick (λ (a : StaticData). TextsSound a.texts) (too_short static.table d) no_texts_sound
+    on-pick (λ (a : Result StaticData Refusal). TextsSound (texts_in a)) (too_short static.table d) no_texts_sound
     (on-pick TextsSound (eqb n 0) name (on-pick TextsSound (eqb n 1) craft no_texts_sound))
 
-static_in_lem : (report : Reported) (texts : Texts) → ReportSound report → TextsSound texts → Sound (static_in report texts)
-static_in_lem (Reported.Report r) texts p t = (p, t)
-static_in_lem Reported.Short texts p t = tt
+static_in_lem : (a : Result StaticData Refusal) → ReportSound a → TextsSound (texts_in a) → Sound (static_in a)
+static_in_lem (Ok a) p t = (p, t)
+static_in_lem (Err r) p t = tt
 
 -- ---- type 15
 module _ (d : List ℕ) where
@@ -113,8 +114,8 @@ module _ (d : List ℕ) where
       (on-pick (λ (rest : List Message). Few no_message (padded no_message (one ∷ rest)) (length (one ∷ rest))) (dropped other) (only one) (two one other))
       (only one)
 
-  abbrev AskedIn : Interrogated → Type 0
-  AskedIn a = Sound (the_asked_in a.outcome a.interrogation)
+  abbrev AskedIn : Result Interrogation Refusal → Type 0
+  AskedIn a = Sound (the_asked_in a)
 
   asked_in : AskedIn (interrogated_of d)
   unfolding read_by
@@ -135,4 +136,4 @@ unfolding message_by
 decoded_sound k d =
     on-pick Sound (within 1 3 k) (position_in d)
     (on-pick Sound (eqb k 15) (asked_in d)
-    (on-pick Sound (eqb k 24) (static_in_lem (static_data_of d).report (static_data_of d).texts (sound d).part (texts_sound d)) tt))
+    (on-pick Sound (eqb k 24) (static_in_lem (static_data_of d) (sound d).part (texts_sound d)) tt))

@@ -1,4 +1,5 @@
 -- A line that is read into numbers and texts of zeros is laid out; and what is told of it is told by its code. Assumes nothing.
+use Rattle.std.specs.Prelude.{Option}
 use Prim.Native.Nat.{ℕ}
 use native.Mathlib.Omega.{arith}
 use mathlib.Core.Path.{◌≡◌, refl, sym, ap, ◌∙◌}
@@ -21,7 +22,6 @@ use Rattle.ais.proofs.Promises.{told_outcome}
 use Rattle.text_out.specs.Text.{Text, text, put}
 use Rattle.parsers.specs.Field.{field_of}
 use Rattle.record_bytes.specs.Bytes.{too_few, record_in, the_record_bytes, loaded_of, stored_of}
-use Rattle.layout_numbers.specs.declared.Optional.{Optional}
 use Rattle.layout_message.specs.Message.{message_texts}
 use Rattle.layout_answer.specs.Sentence.{code_of, values_of, value_count}
 use Rattle.layout_answer.specs.declared.whole.Layout.{Layout}
@@ -112,7 +112,7 @@ second-value (taken p) s m after = refl
 second-value (refused n values) s m after = refl
 
 module _ (show : Show) (state line : List ℕ) (number at : ℕ) (out tally : List ℕ) where
-  pub told-left : {code r : ℕ} {sender : Optional} {state' numbers' texts' out' tally' : List ℕ} → sender ≡ sender_of code (loaded_of state) line
+  pub told-left : {code r : ℕ} {sender : Option ℕ} {state' numbers' texts' out' tally' : List ℕ} → sender ≡ sender_of code (loaded_of state) line
       → laid_in code state' numbers' texts' ≡ laid_of state line number
       → ((o : Outcome) → Coded o code numbers'
       → (text r out' ≡ put (text at out) (shown_for show number sender line (outcome_in o) (layout_in numbers' texts')))
@@ -139,7 +139,7 @@ module _ (show : Show) (state line : List ℕ) (number at : ℕ) (out tally : Li
       let k : code ≡ code_of c.told = ap (λ (x : Laid). x.code) e in
       let said : text r out' ≡ put (text at out) (shown_for show number sent line c.told (layout_for number c)) =
       p.0
-      ∙ ap (λ (x : Optional). put (text at out) (shown_for show number x line (outcome_in o) (layout_in numbers' texts')))
+      ∙ ap (λ (x : Option ℕ). put (text at out) (shown_for show number x line (outcome_in o) (layout_in numbers' texts')))
       (is-sender ∙ ap (λ (n : ℕ). sender_of n (loaded_of state) line) k)
       ∙ ap (λ (x : Told Progress). put (text at out) (shown_for show number sent line x (layout_in numbers' texts'))) t
       ∙ ap (λ (x : Layout). put (text at out) (shown_for show number sent line c.told x)) l in

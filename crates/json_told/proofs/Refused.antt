@@ -1,4 +1,5 @@
 -- What the table of face_json says of a refused line is what json_told/specs/Object says of its number, its values and what is told beside them. Assumes nothing.
+use Rattle.std.specs.Prelude.{Option, None, Some}
 use Prim.Native.Nat.{ℕ, ◌≤◌, min}
 use native.Mathlib.Omega.{arith}
 use mathlib.Core.Path.{◌≡◌, refl, ap, ◌∙◌}
@@ -19,11 +20,12 @@ use Rattle.layout_position.specs.Position.{flag_of}
 use Rattle.face_values.specs.Quoted.{quoted_in}
 use Rattle.face_rows.specs.Rows.{Row, Test, is, is_not, least, nothing, number, pair, quoted, holds, printed_from}
 use Rattle.layout_numbers.specs.Places as at
+use Rattle.layout_numbers.specs.Optional.{there_of, value_of}
 use Rattle.face_members.specs.Members as face
 use Rattle.face_rows.specs.Reasons.{reasons}
 use Rattle.face_json.specs.Refused.{values_table, checksum_table, type_table, reason_table, refused_table}
 use Rattle.face_json.specs.Line.{refused_line}
-use Rattle.json_told.specs.Object.{member, array, reason_of, sum_members, type_members, About, refused_object}
+use Rattle.json_told.specs.Object.{member, array, reason_of, sum_members, sender_member, type_members, About, refused_object}
 use Rattle.json_told.specs.Laid.{refused_numbers}
 use Rattle.face_rows.proofs.Says.{Says, ◌then◌, whole, said, row-says, row_silent, group-says, group_silent}
 use Rattle.face_members.proofs.Members.{words_say, member-says, member_if_says}
@@ -90,14 +92,17 @@ module _ (line n : ℕ) (values : List ℕ) (few : length values ≤ 2) (small :
       then row_silent (is at.code 3) e (ascii "\",\"computed\":\"") (pair at.second_value)
       then row_silent (is at.code 3) e (ascii "\"") nothing)
 
+  sender-says : (o : Option ℕ) → get_or numbers at.sender_there 0 ≡ there_of o → get_or numbers at.sender 0 ≡ value_of o
+      → Rows (face.member_if (is at.sender_there 1) "mmsi" (number at.sender)) (sender_member o)
+  sender-says None e f = row_silent (is at.sender_there 1) (ap (λ (k : ℕ). eqb k 1) e) (face.key "mmsi") (number at.sender)
+  sender-says (Some mmsi) e f = member_if_says "mmsi" (is at.sender_there 1) (number at.sender) (ap (λ (k : ℕ). eqb k 1) e) (ap decimal_of f)
+
   type-says : Rows type_table (type_members n values about.sender)
   type-says =
       when-says (is at.code 10)
       (λ e. member_if_says "type" (is at.code 10) (number at.first_value) e refl)
       (λ e. row_silent (is at.code 10) e (face.key "type") (number at.first_value))
-      then when-says (is at.sender_there 1)
-      (λ e. member_if_says "mmsi" (is at.sender_there 1) (number at.sender) e refl)
-      (λ e. row_silent (is at.sender_there 1) e (face.key "mmsi") (number at.sender))
+      then sender-says about.sender refl refl
 
   reason_says : (other : Bool) → get_or numbers at.another_kind 0 ≡ flag_of other → Rows reason_table (reason_of n other)
   reason_says true f =
@@ -183,20 +188,21 @@ unfolding put put1
 numbers-put line n values about {p} {q} {one} {all} e f =
     ap (λ (t : Text). t.bytes) f ∙ ap (λ (t : Text). (put (text 50 t.bytes) (drop 50 (refused_numbers line n values about))).bytes) e
 
-pub refused-put : (line : ℕ) (about : About) (before : Text) {code first second count shown cut other p q : ℕ} {one all : List ℕ} {after : Text}
-    → count ≡ count_by code → shown ≡ min 100 (length about.text) → cut ≡ flag_of about.cut → other ≡ flag_of about.other
+pub refused-put : (line : ℕ) (about : About) (before : Text) {code first second count shown cut there sent other p q : ℕ} {one all : List ℕ} {after : Text}
+    → count ≡ count_by code → shown ≡ min 100 (length about.text) → cut ≡ flag_of about.cut
+    → there ≡ there_of about.sender → sent ≡ value_of about.sender → other ≡ flag_of about.other
     → text q one ≡ put (text 0 (replicate 59 0)) (first ∷ second ∷ [])
-    → text p all ≡ put (text 50 one) (line ∷ 0 ∷ code ∷ count ∷ shown ∷ cut ∷ about.sender.there ∷ about.sender.value ∷ other ∷ [])
+    → text p all ≡ put (text 50 one) (line ∷ 0 ∷ code ∷ count ∷ shown ∷ cut ∷ there ∷ sent ∷ other ∷ [])
     → after ≡ put before (refused_line all (take shown about.text))
     → (r : Refusal) → code ≡ (row_of r).number → first ≡ get_or (row_of r).values 0 0 → second ≡ get_or (row_of r).values 1 0
     → after ≡ put before (refused_object line (row_of r).number (row_of r).values about)
-refused-put line about before {code} {first} {second} {count} {shown} {cut} {other} {p} {q} {one} {all} {after} is-count is-shown is_cut is-other e f g r is_code
+refused-put line about before {code} {first} {second} {count} {shown} {cut} {there} {sent} {other} {p} {q} {one} {all} {after} is-count is-shown is_cut is_there is_sent is-other e f g r is_code
     is-first is-second =
     let values = (row_of r).values in
     let t = about.text in
     let n : count ≡ length values = is-count ∙ ap count_by is_code ∙ counted r in
     let laid : all ≡ refused_numbers line (row_of r).number values about =
-    numbers-put line (row_of r).number values about (rw (is-first, is-second) at e) (rw (n, is_code, is-shown, is_cut, is-other) at f) in
+    numbers-put line (row_of r).number values about (rw (is-first, is-second) at e) (rw (n, is_code, is-shown, is_cut, is_there, is_sent, is-other) at f) in
     g ∙ ap (λ (l : List ℕ). put before (refused_line l (take shown t))) laid
     ∙ ap (λ (s : List ℕ). put before (refused_line (refused_numbers line (row_of r).number values about) s)) (ap (λ (i : ℕ). take i t) is-shown ∙ take_min 100 t)
     ∙ ap (put before) (refusal_said line r about)

@@ -1,11 +1,12 @@
 -- What the fields of a decoded message hold, so far as the tables of face_json rest on it; proofs/Decoded has that every decoded message does.
+use Rattle.std.specs.Prelude.{Option, None, Some}
 use Prim.Native.Nat.{ℕ, ◌+◌, ◌^◌, ◌≤◌, ◌<◌}
 use mathlib.Core.Path.{◌≡◌}
 use mathlib.Core.List.{List, [], ◌∷◌}
 use lib.ListN.{length, get_or}
 use lib.Signed.{mag}
 use Rattle.parsers.specs.declared.Text.{Text}
-use Rattle.navigation.specs.declared.Turn.{Turn}
+use Rattle.navigation.specs.declared.RateOfTurn.{RateOfTurn}
 use Rattle.navigation.specs.declared.ManeuverIndicator.{ManeuverIndicator}
 use Rattle.position_report.specs.declared.PositionReport.{PositionReport}
 use Rattle.static_data_report.specs.Sound.{PartSound}
@@ -17,15 +18,15 @@ use Rattle.messages.specs.declared.AisMessage.{AisMessage}
 use Rattle.messages.specs.declared.Message.{Message}
 
 -- ---- types 1 to 3: signed numbers fit in 32 bits, and 0 is no unknown manoeuvre
-abbrev pub TurnSound : Turn → Type 0
-TurnSound Turn.Absent = Unit {0}
-TurnSound (Turn.Of turn) = mag turn.raw + 1 < 2 ^ 32
+abbrev pub TurnSound : Option RateOfTurn → Type 0
+TurnSound None = Unit {0}
+TurnSound (Some turn) = mag turn.raw + 1 < 2 ^ 32
 
-abbrev pub ManoeuvreSound : ManeuverIndicator → Type 0
-ManoeuvreSound ManeuverIndicator.Absent = Unit {0}
-ManoeuvreSound ManeuverIndicator.NoSpecialManeuver = Unit {0}
-ManoeuvreSound ManeuverIndicator.SpecialManeuver = Unit {0}
-ManoeuvreSound (ManeuverIndicator.Unknown n) = n ≡ 0 → ⊥
+abbrev pub ManoeuvreSound : Option ManeuverIndicator → Type 0
+ManoeuvreSound None = Unit {0}
+ManoeuvreSound (Some ManeuverIndicator.NoSpecialManeuver) = Unit {0}
+ManoeuvreSound (Some ManeuverIndicator.SpecialManeuver) = Unit {0}
+ManoeuvreSound (Some (ManeuverIndicator.Unknown n)) = n ≡ 0 → ⊥
 
 pub record PositionSound (p : PositionReport) : Type 0 where
   pub turn : TurnSound p.rate_of_turn

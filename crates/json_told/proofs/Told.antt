@@ -6,6 +6,7 @@ use mathlib.Core.Bool.{Bool, true, false, not, ◌||◌}
 use mathlib.Core.List.{List, [], ◌∷◌, ◌++◌}
 use lib.Dec.{eqb}
 use lib.ListN.{replicate}
+use Rattle.std.specs.Prelude.{Ok, Err}
 use Rattle.refusal.specs.Words.{pick, within, is_empty, Told, taken, Check, on_taken}
 use Rattle.refusal.specs.Order.{Passed}
 use Rattle.refusal.proofs.Order.{passed, taken_same}
@@ -13,18 +14,17 @@ use Rattle.armour.specs.Armour.{unarmored}
 use Rattle.position_report.specs.Table.{position_table}
 use Rattle.position_report.specs.Report.{report_of}
 use Rattle.position_report.specs.declared.PositionReport.{PositionReport}
+use Rattle.std.specs.Prelude.{Result}
+use Rattle.refusal.specs.declared.Refusal.{Refusal}
 use Rattle.static_data_report.specs.StaticData.{static_data_of}
-use Rattle.static_data_report.specs.declared.Reported.{Reported}
-use Rattle.static_data_report.specs.declared.Texts.{Texts}
+use Rattle.static_data_report.specs.declared.StaticData.{StaticData}
 use Rattle.interrogation.specs.Interrogation.{interrogated_of}
-use Rattle.interrogation.specs.declared.Ending.{Ending}
 use Rattle.interrogation.specs.declared.Interrogation.{Interrogation}
 use Rattle.messages.specs.Messages.{type_of, other_type, unknown_type, no_message, the_position_in, static_in, the_asked_in, message_by, ends_position, ends_static, ends_asked}
 use Rattle.messages.specs.Messages.{ends_inside}
 use Rattle.messages.specs.declared.AisMessage.{AisMessage}
 use Rattle.messages.specs.declared.Message.{Message}
-use Rattle.sentence.specs.Line.{payload_of, parsed_of}
-use Rattle.sentence.specs.declared.Parsed.{Parsed}
+use Rattle.sentence.specs.Line.{payload_of, parsed_of, Parsed}
 use Rattle.reassembly.specs.Record.{join_checks}
 use Rattle.reassembly.specs.declared.Part.{Part}
 use Rattle.reassembly.specs.declared.Record.{Record}
@@ -47,13 +47,13 @@ position-tells : (ends : Bool) (r : PositionReport) → ends ≡ false → Tells
 position-tells true r e n = clash e
 position-tells false r e n = let z : ◌≡◌ {A = ℕ} 0 1 = cc in omega arith
 
-static_tells : (s : Reported) (texts : Texts) → ends_static s ≡ false → Tells (static_in s texts)
-static_tells Reported.Short texts e n = clash e
-static_tells (Reported.Report r) texts e n = let z : ◌≡◌ {A = ℕ} 0 1 = cc in omega arith
+static_tells : (a : Result StaticData Refusal) → ends_static a ≡ false → Tells (static_in a)
+static_tells (Err r) e n = clash e
+static_tells (Ok a) e n = let z : ◌≡◌ {A = ℕ} 0 1 = cc in omega arith
 
-asked-tells : (a : Ending) (i : Interrogation) → ends_asked a ≡ false → Tells (the_asked_in a i)
-asked-tells Ending.Short i e n = clash e
-asked-tells Ending.Taken i e n = let z : ◌≡◌ {A = ℕ} 0 1 = cc in omega arith
+asked-tells : (a : Result Interrogation Refusal) → ends_asked a ≡ false → Tells (the_asked_in a)
+asked-tells (Err r) e n = clash e
+asked-tells (Ok i) e n = let z : ◌≡◌ {A = ℕ} 0 1 = cc in omega arith
 
 -- a type outside the five is 10 or 11
 neither_nor : (other : Bool) → other ≡ false → not other ≡ false → ⊥
@@ -66,14 +66,13 @@ message-tells k d e o u = go (within 1 3 k) (eqb k 15) (eqb k 24) e u
   where
     go : (a b c : Bool)
         → pick a (ends_position d)
-        (pick b (ends_asked (interrogated_of d).outcome) (pick c (ends_static (static_data_of d).report) false)) ≡ false
+        (pick b (ends_asked (interrogated_of d)) (pick c (ends_static (static_data_of d)) false)) ≡ false
         → pick a false (pick b false (pick c false (not (other_type k)))) ≡ false
         → Tells (pick a (pick (ends_position d) no_message (the_position_in (report_of position_table d)))
-        (pick b (the_asked_in (interrogated_of d).outcome (interrogated_of d).interrogation)
-        (pick c (static_in (static_data_of d).report (static_data_of d).texts) no_message)))
+        (pick b (the_asked_in (interrogated_of d)) (pick c (static_in (static_data_of d)) no_message)))
     go true b c e u = position-tells (ends_position d) (report_of position_table d) e
-    go false true c e u = asked-tells (interrogated_of d).outcome (interrogated_of d).interrogation e
-    go false false true e u = static_tells (static_data_of d).report (static_data_of d).texts e
+    go false true c e u = asked-tells (interrogated_of d) e
+    go false false true e u = static_tells (static_data_of d) e
     go false false false e u = absurd (neither_nor (other_type k) o u)
 
 -- ---- a call
@@ -98,9 +97,9 @@ module _ (r : Record) (line : List ℕ) where
   called_for p = call_by (checks_for p) r line Decode.On p (replicate 384 0) (replicate 288 0)
 
   by-parsed : (p : Parsed) → (called_for p).told ≡ taken complete → Tells (called_for p).message
-  by-parsed (Parsed.Bad place) e = absurd (clash (passed (checks_for (Parsed.Bad place)) complete complete e).1.1.0)
-  by-parsed (Parsed.Sentence s) e =
-      let checks = checks_for (Parsed.Sentence s) in
+  by-parsed (Err broken) e = absurd (clash (passed (checks_for (Err broken)) complete complete e).1.1.0)
+  by-parsed (Ok s) e =
+      let checks = checks_for (Ok s) in
       let own = payload_of line s in
       let opening = message_checks (handed_of r s own) s.fill_bit_count in
       let d = unarmored (handed_of r s own) s.fill_bit_count in

@@ -1,4 +1,5 @@
 -- A field as a row shows it, from the numbers that it is laid out as, is what the definitions say of the field. Assumes nothing.
+use Rattle.std.specs.Prelude.{Option, None, Some, Float}
 use Prim.Native.Nat.{ℕ, ◌+◌, ◌-◌, ◌%◌, ◌^◌, ◌≤◌, ◌<◌}
 use native.Mathlib.Omega.{arith}
 use native.Mathlib.Nat.{mod-eq_of_lt}
@@ -11,24 +12,20 @@ use lib.Signed.{mag}
 use lib.ListN.{get_or, take, drop}
 use lib.Seq.{take-take}
 use borrow.Author.Tests.{lt-ltb, le-ltb, ne_eqb}
+use Rattle.std.specs.Prelude.{Option, Some, None}
 use Rattle.refusal.specs.Words.{pick}
 use Rattle.text_out.specs.Text.{ascii}
 use Rattle.text_out.specs.Digits.{decimal_of}
-use Rattle.sentence.specs.declared.Channel.{Channel}
 use Rattle.parsers.specs.declared.Text.{Text}
 use Rattle.navigation.specs.Navigation.{accuracy_number, manoeuvre_number}
-use Rattle.navigation.specs.declared.Reading.{Reading}
-use Rattle.navigation.specs.declared.Heading.{Heading}
 use Rattle.navigation.specs.declared.Accuracy.{Accuracy}
-use Rattle.navigation.specs.declared.Turn.{Turn}
+use Rattle.navigation.specs.declared.RateOfTurn.{RateOfTurn}
 use Rattle.navigation.specs.declared.ManeuverIndicator.{ManeuverIndicator}
 use Rattle.interrogation.specs.Interrogation.{no_message, no_station}
-use Rattle.interrogation.specs.declared.SlotOffset.{SlotOffset}
 use Rattle.interrogation.specs.declared.Message.{Message}
 use Rattle.interrogation.specs.declared.Station.{Station}
-use Rattle.layout_position.specs.Position.{word_of, flag_of, reading_in, turn_in, heading_in}
-use Rattle.layout_message.specs.Asked.{offset_in}
-use Rattle.layout_answer.specs.Sentence.{channel_in}
+use Rattle.layout_numbers.specs.Optional.{there_of, value_of}
+use Rattle.layout_position.specs.Position.{word_of, flag_of, reading_in, turn_in}
 use Rattle.face_values.specs.Signed.{signed_in}
 use Rattle.face_values.specs.Point.{degrees_in}
 use Rattle.face_values.specs.Rate.{rate_in}
@@ -53,36 +50,36 @@ degrees-said (negsuc n) h =
     rw (le-ltb (2 ^ 64 - 1 - n) (2 ^ 63) (omega arith), back n (omega arith), mod-eq_of_lt {n = n + 1} {m = 2 ^ 32} (omega arith))
 
 -- ---- what may be absent
-pub reading_said : (r : Reading) {s t : List ℕ} → s ≡ t → pick (eqb (reading_in r).there 1) s null ≡ reading_text r t
-reading_said Reading.Absent e = refl
-reading_said (Reading.Value x) e = e
+pub reading_said : (r : Option Float) {s t : List ℕ} → s ≡ t → pick (eqb (there_of (reading_in r)) 1) s null ≡ reading_text r t
+reading_said None e = refl
+reading_said (Some x) e = e
 
-pub rate-said : (r : Reading) → pick (eqb (reading_in r).there 1) (rate_in (reading_in r).value) null ≡ rate_text r
-rate-said Reading.Absent = refl
-rate-said (Reading.Value x) = refl
+pub rate-said : (r : Option Float) → pick (eqb (there_of (reading_in r)) 1) (rate_in (value_of (reading_in r))) null ≡ rate_text r
+rate-said None = refl
+rate-said (Some x) = refl
 
-pub channel-said : (c : Channel) → pick (eqb (channel_in c).there 1) (quoted_in ((channel_in c).value % 256 ∷ [])) null ≡ channel_text c
-channel-said Channel.Absent = refl
-channel-said (Channel.Of c) = refl
+pub channel-said : (c : Option ℕ) → pick (eqb (there_of c) 1) (quoted_in (value_of c % 256 ∷ [])) null ≡ channel_text c
+channel-said None = refl
+channel-said (Some c) = refl
 
-pub turn-said : (t : Turn) → TurnSound t → pick (eqb (turn_in t).there 1) (signed_in (turn_in t).value) null ≡ turn_text t
-turn-said Turn.Absent h = refl
-turn-said (Turn.Of turn) h = signed-said turn.raw h
+pub turn-said : (t : Option RateOfTurn) → TurnSound t → pick (eqb (there_of (turn_in t)) 1) (signed_in (value_of (turn_in t))) null ≡ turn_text t
+turn-said None h = refl
+turn-said (Some turn) h = signed-said turn.raw h
 
-pub heading-said : (h : Heading) → pick (eqb (heading_in h).there 1) (decimal_of (heading_in h).value) null ≡ heading_text h
-heading-said Heading.Absent = refl
-heading-said (Heading.Of degrees) = refl
+pub heading-said : (h : Option ℕ) → pick (eqb (there_of h) 1) (decimal_of (value_of h)) null ≡ heading_text h
+heading-said None = refl
+heading-said (Some degrees) = refl
 
-pub offset-said : (o : SlotOffset) → pick (eqb (offset_in o).there 1) (decimal_of (offset_in o).value) null ≡ offset_text o
-offset-said SlotOffset.Absent = refl
-offset-said (SlotOffset.Of slots) = refl
+pub offset-said : (o : Option ℕ) → pick (eqb (there_of o) 1) (decimal_of (value_of o)) null ≡ offset_text o
+offset-said None = refl
+offset-said (Some slots) = refl
 
-pub manoeuvre-said : (m : ManeuverIndicator) → ManoeuvreSound m
+pub manoeuvre-said : (m : Option ManeuverIndicator) → ManoeuvreSound m
     → pick (eqb (manoeuvre_number m) 0) null (decimal_of (manoeuvre_number m)) ≡ manoeuvre_text m
-manoeuvre-said ManeuverIndicator.Absent h = refl
-manoeuvre-said ManeuverIndicator.NoSpecialManeuver h = refl
-manoeuvre-said ManeuverIndicator.SpecialManeuver h = refl
-manoeuvre-said (ManeuverIndicator.Unknown n) h = rw (ne_eqb n 0 h)
+manoeuvre-said None h = refl
+manoeuvre-said (Some ManeuverIndicator.NoSpecialManeuver) h = refl
+manoeuvre-said (Some ManeuverIndicator.SpecialManeuver) h = refl
+manoeuvre-said (Some (ManeuverIndicator.Unknown n)) h = rw (ne_eqb n 0 h)
 
 -- ---- flags
 pub dgps_said : (a : Accuracy) → pick (eqb (accuracy_number a) 1) (ascii "true") (ascii "false") ≡ truth (is_dgps a)
@@ -123,7 +120,7 @@ module _ {A : Type 0} {none : A} (tell : A → List ℕ) where
 
 -- an offset goes by itself: an unused place has none
 abbrev offset_is : Message → List ℕ
-offset_is m = pick (eqb (offset_in m.slot_offset).there 1) (decimal_of (offset_in m.slot_offset).value) null
+offset_is m = pick (eqb (there_of m.slot_offset) 1) (decimal_of (value_of m.slot_offset)) null
 
 pub first-offset : {l : List Message} {n : ℕ} → Few no_message l n → offset_is (get_or l 0 no_message) ≡ tell_at offset_told (take n l) 0
 first-offset no_one = refl

@@ -1,6 +1,6 @@
 -- What a line of the input is answered with: a line of JSON, or nothing. The promise is `left_of` and `left_long`, over the fields of the message
 -- (specs/Object); in the code an answer is laid out and the layout shown (specs/Laid), and proofs/Calls has that this is the same.
-use Rattle.std.specs.Prelude.{ℕ, Bool, true, false, List, [], eqb, ltb, length, replicate}
+use Rattle.std.specs.Prelude.{ℕ, Bool, true, false, List, [], eqb, ltb, length, replicate, Option, None}
 use Rattle.refusal.specs.Words.{pick, Told, taken, refused}
 use Rattle.interrogation.specs.declared.Interrogation.{Interrogation}
 use Rattle.messages.specs.declared.AisMessage.{AisMessage}
@@ -15,8 +15,6 @@ use Rattle.record_bytes.specs.Bytes.{too_few, record_in, loaded_of, stored_of}
 use Rattle.text_out.specs.Text.{Text, text, put}
 use Rattle.sentence.specs.Other.{other_sentence}
 use Rattle.summary.specs.Tally.{another_kind, bumped, counted_of}
-use Rattle.layout_numbers.specs.Optional.{absent}
-use Rattle.layout_numbers.specs.declared.Optional.{Optional}
 use Rattle.layout_answer.specs.Sender.{sender_of}
 use Rattle.json_told.specs.Object.{About, message_object, refused_object}
 use Rattle.json_told.specs.declared.Show.{Show}
@@ -27,7 +25,7 @@ abbrev pub other_of : ℕ → List ℕ → Bool
 other_of n line = pick (eqb n 2) (other_sentence line) false
 
 -- all that is told of a line beside its refusal: its sender where its type is not decoded, and its text
-abbrev pub about_by : ℕ → Optional → List ℕ → About
+abbrev pub about_by : ℕ → Option ℕ → List ℕ → About
 about_by n sender line = record { sender = sender; other = other_of n line; text = line; cut = ltb 100 (length line) }
 
 abbrev pub about_of : ℕ → Record → List ℕ → About
@@ -35,7 +33,7 @@ about_of n found line = about_by n (sender_of n found line) line
 
 -- of a line that is too long to be held: its first bytes
 abbrev pub about_long : List ℕ → About
-about_long line = record { sender = absent; other = false; text = line; cut = true }
+about_long line = record { sender = None; other = false; text = line; cut = true }
 
 -- where refused lines are left out, nothing is written for one
 abbrev pub shown_by : Show → List ℕ → List ℕ

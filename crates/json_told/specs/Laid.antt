@@ -1,6 +1,6 @@
 -- What a line of the input is answered with, as the code has it: a call is laid out in numbers and texts, and the layout shown. Nobody need believe it:
 -- proofs/Calls has that it is the promise of specs/Answer.
-use Rattle.std.specs.Prelude.{ℕ, min, ◌≡◌, List, [], ◌∷◌, ◌++◌, length, get_or, replicate}
+use Rattle.std.specs.Prelude.{ℕ, min, ◌≡◌, List, [], ◌∷◌, ◌++◌, length, get_or, replicate, Option}
 use Rattle.refusal.specs.Words.{Told, taken, refused}
 use Rattle.refusal.specs.Refusal.{row_of}
 use Rattle.refusal.specs.declared.Refusal.{Refusal}
@@ -13,7 +13,7 @@ use Rattle.parsers.specs.Field.{field_of}
 use Rattle.record_bytes.specs.Bytes.{stored_of}
 use Rattle.layout_position.specs.Position.{flag_of}
 use Rattle.layout_numbers.specs.Places as at
-use Rattle.layout_numbers.specs.declared.Optional.{Optional}
+use Rattle.layout_numbers.specs.Optional.{there_of, value_of}
 use Rattle.layout_answer.specs.Sentence.{code_of, values_of}
 use Rattle.layout_answer.specs.declared.whole.Layout.{Layout}
 use Rattle.layout_answer.specs.Layout.{layout_by}
@@ -68,7 +68,7 @@ abbrev pub line_for : ℕ → Told Progress → Sentence → Message → List �
 line_for number told sentence message bits = shown_line (layout_by told sentence message number (field_of bits 149 19))
 
 -- a message by its layout, a refusal as the promise has it, with the sender that is told of it
-abbrev pub shown_for : Show → ℕ → Optional → List ℕ → Told Progress → Layout → List ℕ
+abbrev pub shown_for : Show → ℕ → Option ℕ → List ℕ → Told Progress → Layout → List ℕ
 shown_for show number sender line (taken complete) l = shown_line l
 shown_for show number sender line (taken unfinished) l = []
 shown_for show number sender line (refused n values) l = shown_by show (refused_object number n values (about_by n sender line))
@@ -89,7 +89,7 @@ refused_numbers number n values about =
     ∷ length values
     ∷ min 100 (length about.text)
     ∷ flag_of about.cut
-    ∷ about.sender.there
-    ∷ about.sender.value
+    ∷ there_of about.sender
+    ∷ value_of about.sender
     ∷ flag_of about.other
     ∷ []

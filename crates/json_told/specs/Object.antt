@@ -1,17 +1,14 @@
 -- A line of JSON, from the fields of the message that it tells: gpsd's names, in the order of the AIVDM description's tables. What stands in quotes is
 -- document 01's text, where nothing else is named.
-use Rattle.std.specs.Prelude.{ℕ, zero, suc, ◌+◌, ◌*◌, ◌/◌, ◌%◌, Bool, true, false, List, [], ◌∷◌, ◌++◌, eqb, ltb, ℤ, pos, negsuc, get_or, take}
+use Rattle.std.specs.Prelude.{ℕ, zero, suc, ◌+◌, ◌*◌, ◌/◌, ◌%◌, Bool, true, false, List, [], ◌∷◌, ◌++◌, eqb, ltb, ℤ, pos, negsuc, get_or, take, Float, Option, None, Some}
 use Prim.Native.String.{String}
 use Rattle.refusal.specs.Words.{pick}
 use Rattle.sentence.specs.declared.TalkerId.{TalkerId}
 use Rattle.sentence.specs.declared.AisReportType.{AisReportType}
-use Rattle.sentence.specs.declared.Channel.{Channel}
 use Rattle.parsers.specs.Table.{number_at}
 use Rattle.parsers.specs.declared.Text as sixbit
-use Rattle.navigation.specs.declared.Reading.{Reading}
-use Rattle.navigation.specs.declared.Heading.{Heading}
 use Rattle.navigation.specs.declared.Accuracy.{Accuracy}
-use Rattle.navigation.specs.declared.Turn.{Turn}
+use Rattle.navigation.specs.declared.RateOfTurn.{RateOfTurn}
 use Rattle.navigation.specs.declared.ManeuverIndicator.{ManeuverIndicator}
 use Rattle.position_report.specs.Table.{position_table}
 use Rattle.position_report.specs.Report.{status_number}
@@ -21,14 +18,12 @@ use Rattle.static_data_report.specs.declared.PartB.{PartB}
 use Rattle.static_data_report.specs.declared.MessagePart.{MessagePart}
 use Rattle.static_data_report.specs.declared.StaticDataReport.{StaticDataReport}
 use Rattle.static_data_report.specs.declared.Texts.{Texts}
-use Rattle.interrogation.specs.declared.SlotOffset.{SlotOffset}
 use Rattle.interrogation.specs.declared.Message as asked
 use Rattle.interrogation.specs.declared.Station.{Station}
 use Rattle.interrogation.specs.declared.Interrogation.{Interrogation}
 use Rattle.messages.specs.declared.AisMessage.{AisMessage}
 use Rattle.messages.specs.declared.Message.{Message}
 use Rattle.answer.specs.declared.Sentence.{Sentence}
-use Rattle.layout_numbers.specs.declared.Optional.{Optional}
 use Rattle.layout_position.specs.Position.{pattern_of}
 use Rattle.text_out.specs.Text.{ascii}
 use Rattle.text_out.specs.Digits.{decimal_of}
@@ -70,12 +65,12 @@ degrees_text (pos n) = fixed (nearest n)
 degrees_text (negsuc n) = 45 ∷ fixed (nearest (n + 1))
 
 -- "Speed and course are absent or a single-precision value": written from the number as sent
-abbrev pub reading_text : Reading → List ℕ → List ℕ
-reading_text Reading.Absent sent = null
-reading_text (Reading.Value x) sent = sent
+abbrev pub reading_text : Option Float → List ℕ → List ℕ
+reading_text None sent = null
+reading_text (Some x) sent = sent
 
 -- "Absent: status 15": of the statuses the absent one alone has that number
-abbrev pub the_status_text : NavigationStatus → List ℕ
+abbrev pub the_status_text : Option NavigationStatus → List ℕ
 the_status_text s = pick (eqb (status_number s) 15) null (decimal_of (status_number s))
 
 -- the same in the AIVDM description's words
@@ -83,30 +78,30 @@ abbrev pub status_name : ℕ → List ℕ
 status_name n = pick (ltb n 15) (in_quotes (get_or (spelt statuses) n [])) null
 
 -- "Turn rate is .. absent at -127 and 127": degrees a minute, without a sign, that read back to the same single-precision value
-abbrev pub rate_text : Reading → List ℕ
-rate_text Reading.Absent = null
-rate_text (Reading.Value x) = rate_in (pattern_of x)
+abbrev pub rate_text : Option Float → List ℕ
+rate_text None = null
+rate_text (Some x) = rate_in (pattern_of x)
 
 -- a ship type in the AIVDM description's words, which end at 99. "Decoders should treat these like value 0" it says of larger ones; we say nothing of them
 abbrev pub ship_name : ℕ → List ℕ
 ship_name n = pick (ltb n 100) (in_quotes (get_or ship_types n [])) null
 
 -- "Absent: .. turn -128"; else the turn as it was sent
-abbrev pub turn_text : Turn → List ℕ
-turn_text Turn.Absent = null
-turn_text (Turn.Of turn) = integer turn.raw
+abbrev pub turn_text : Option RateOfTurn → List ℕ
+turn_text None = null
+turn_text (Some turn) = integer turn.raw
 
 -- "Absent: .. heading 511"; else whole degrees
-abbrev pub heading_text : Heading → List ℕ
-heading_text Heading.Absent = null
-heading_text (Heading.Of degrees) = decimal_of degrees
+abbrev pub heading_text : Option ℕ → List ℕ
+heading_text None = null
+heading_text (Some degrees) = decimal_of degrees
 
 -- "Absent: .. manoeuvre 0"; else the number as it was sent
-abbrev pub manoeuvre_text : ManeuverIndicator → List ℕ
-manoeuvre_text ManeuverIndicator.Absent = null
-manoeuvre_text ManeuverIndicator.NoSpecialManeuver = decimal_of 1
-manoeuvre_text ManeuverIndicator.SpecialManeuver = decimal_of 2
-manoeuvre_text (ManeuverIndicator.Unknown n) = decimal_of n
+abbrev pub manoeuvre_text : Option ManeuverIndicator → List ℕ
+manoeuvre_text None = null
+manoeuvre_text (Some ManeuverIndicator.NoSpecialManeuver) = decimal_of 1
+manoeuvre_text (Some ManeuverIndicator.SpecialManeuver) = decimal_of 2
+manoeuvre_text (Some (ManeuverIndicator.Unknown n)) = decimal_of n
 
 -- 1 "indicates a DGPS-quality fix" (the AIVDM description)
 abbrev pub is_dgps : Accuracy → Bool
@@ -114,9 +109,9 @@ is_dgps Accuracy.Unaugmented = false
 is_dgps Accuracy.Dgps = true
 
 -- "slot offset 12 .. (0 means absent, as when missing)"
-abbrev pub offset_text : SlotOffset → List ℕ
-offset_text SlotOffset.Absent = null
-offset_text (SlotOffset.Of slots) = decimal_of slots
+abbrev pub offset_text : Option ℕ → List ℕ
+offset_text None = null
+offset_text (Some slots) = decimal_of slots
 
 -- the characters of a text that are its own, in quotes
 abbrev pub spelled : sixbit.Text → List ℕ
@@ -144,9 +139,9 @@ report_text AisReportType.VDO = ascii "\"VDO\""
 report_text AisReportType.Unknown = null
 
 -- "channel up to a comma, its first byte kept or none": a byte is below 256
-abbrev pub channel_text : Channel → List ℕ
-channel_text Channel.Absent = null
-channel_text (Channel.Of c) = quoted_in (c % 256 ∷ [])
+abbrev pub channel_text : Option ℕ → List ℕ
+channel_text None = null
+channel_text (Some c) = quoted_in (c % 256 ∷ [])
 
 -- ---- messages
 -- an object of gpsd's class, with the number of the line in the input
@@ -298,10 +293,14 @@ abbrev pub sum_members : ℕ → List ℕ → List ℕ
 sum_members n values =
     pick (eqb n 3) (member "checksum" (in_quotes (pair_in (get_or values 0 0))) ++ member "computed" (in_quotes (pair_in (get_or values 1 0)))) []
 
+-- the sender, where it is told
+abbrev pub sender_member : Option ℕ → List ℕ
+sender_member None = []
+sender_member (Some mmsi) = member "mmsi" (decimal_of mmsi)
+
 -- refusal 10 returns "the type"; the sender, where it is told
-abbrev pub type_members : ℕ → List ℕ → Optional → List ℕ
-type_members n values sender =
-    pick (eqb n 10) (member "type" (decimal_of (get_or values 0 0))) [] ++ pick (eqb sender.there 1) (member "mmsi" (decimal_of sender.value)) []
+abbrev pub type_members : ℕ → List ℕ → Option ℕ → List ℕ
+type_members n values sender = pick (eqb n 10) (member "type" (decimal_of (get_or values 0 0))) [] ++ sender_member sender
 
 -- the line's own text, of which at most 100 bytes are shown
 abbrev pub text_members : List ℕ → Bool → List ℕ
@@ -310,7 +309,7 @@ text_members text cut = member "text" (quoted_in (take 100 text)) ++ pick cut (m
 -- what is told of a refused line beside its number, its refusal's and the values: the sender, whether it is another kind's, its text, and whether there is more
 -- of that
 pub record About : Type 0 where
-  pub sender : Optional
+  pub sender : Option ℕ
   pub other : Bool
   pub text : List ℕ
   pub cut : Bool

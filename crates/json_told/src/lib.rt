@@ -3,17 +3,17 @@
 #![tactic(auto)]
 
 ghost use Rattle.std.specs.Prelude.{◌≡◌, [], List, ◌+◌, ◌-◌, ◌^◌, min, ℕ, take, replicate};
-ghost use Rattle.text_out.specs.Text.{text, put};
+ghost use Rattle.text_out.specs.Text.{put};
+ghost use Rattle.text_out.specs.Output.{stands, Puts};
 ghost use Rattle.refusal.specs.Refusal.{row_of};
 ghost use Rattle.refusal.specs.declared.Refusal.{Refusal};
 ghost use Rattle.answer.specs.Answer.{outcome_in};
 ghost use Rattle.answer.specs.declared.Outcome.{Outcome};
-ghost use Rattle.layout_position.specs.Position.{flag_of};
 ghost use Rattle.json_told.specs.Object.{refused_object};
 ghost use Rattle.json_told.specs.Answer.{other_of, about_by, about_long, shown_by, refused_tally, left_with, left_of, left_long};
 ghost use Rattle.json_told.specs.Laid.{laid_in, laid_of, layout_in, Coded, Holds, shown_for, tally_for};
 
-use layout_numbers::Optional;
+use text_out::Output;
 
 // Places of the layout that the code reads and fills by itself, by their names in layout_numbers/specs/Places.
 const FIRST_VALUE: usize = 0;
@@ -53,10 +53,12 @@ pub fn answer_line(
     ensures number_value { result.number ≡ min (s.number + 1) (2 ^ 64 - 1) }
 {
     let k = text_out::up_to(n, line);
-    let number = following(s.number);
+    let number = s.number.saturating_add(1);
+    let mut out = Output::new(out, s.used);
+    tell(state, number, &line[..k], show, &mut out, tally);
     Kept {
-        number: number,
-        used: tell(state, number, &line[..k], show, out, s.used, tally),
+        number,
+        used: out.at,
     }
 }
 
@@ -66,11 +68,13 @@ pub fn answer_long(s: Kept, line: &[u8], show: Show, out: &mut [u8], tally: &mut
         ≡ left_long show state result.number line.now s.used out.old tally.old }
     ensures number_value { result.number ≡ min (s.number + 1) (2 ^ 64 - 1) }
 {
-    let number = following(s.number);
+    let number = s.number.saturating_add(1);
     summary::count(tally, 1, 0);
+    let mut out = Output::new(out, s.used);
+    put_long(&mut out, number, line, show);
     Kept {
-        number: number,
-        used: put_long(out, s.used, number, line, show),
+        number,
+        used: out.at,
     }
 }
 
@@ -86,59 +90,39 @@ struct RefusedLine {
 // What is told of a refused line beside its refusal and its text.
 #[derive(Clone, Copy)]
 struct Beside {
-    pub sender: Optional,
+    pub sender: Option<u64>,
     pub other: bool,
     pub cut: bool,
 }
 
 // A refusal of a line that is too long.
-fn put_long(out: &mut [u8], at: usize, number: u64, line: &[u8], show: Show) -> usize
-    ensures { text result out.new
-        ≡ put (text at out.old) (shown_by show (refused_object number 1 [] (about_long line.now))) }
+fn put_long(out: &mut Output, number: u64, line: &[u8], show: Show)
+    ensures { Puts out.old out.new (shown_by show (refused_object number 1 [] (about_long line.now))) }
 {
     match show {
         Show::All => {
             let refused = RefusedLine {
-                number: number,
+                number,
                 code: 1,
                 first: 0,
                 second: 0,
             };
-            let sender = Optional { there: 0, value: 0 };
             let beside = Beside {
-                sender: sender,
+                sender: None,
                 other: false,
                 cut: true,
             };
-            put_refused(out, at, refused, beside, line)
+            put_refused(out, refused, beside, line);
         }
-        Show::Quiet => at,
-    }
-}
-
-// The number of the next line; no input has so many lines that it would stay.
-fn following(number: u64) -> u64
-    ensures { result ≡ min (number + 1) (2 ^ 64 - 1) }
-{
-    if number < u64::MAX {
-        number + 1
-    } else {
-        number
+        Show::Quiet => {}
     }
 }
 
 // Reads a line, the one of this number in the input, puts its answer and counts it.
-fn tell(
-    state: &mut [u8],
-    number: u64,
-    line: &[u8],
-    show: Show,
-    out: &mut [u8],
-    at: usize,
-    tally: &mut [u64],
-) -> usize
-    ensures { left_with state.new result out.new tally.new
-        ≡ left_of show state.old number line.now at out.old tally.old }
+fn tell(state: &mut [u8], number: u64, line: &[u8], show: Show, out: &mut Output, tally: &mut [u64])
+    ensures same { out.new.buffer.ghost_name ≡ out.old.buffer.ghost_name }
+    ensures is { left_with state.new out.new.at out.new.buffer.now tally.new
+        ≡ left_of show state.old number line.now out.old.at out.old.buffer.now tally.old }
 {
     let mut numbers = [0u64; 54];
     let mut texts = [0u8; 80];
@@ -147,8 +131,8 @@ fn tell(
     let code = read(state, line, number, &mut numbers, &mut texts);
     let sender = layout_answer::sender::sender_of(code, found, line);
     put_told(
-        out, at, number, code, &numbers, &texts, sender, line, show, tally,
-    )
+        out, number, code, &numbers, &texts, sender, line, show, tally,
+    );
 }
 
 // A line read over the lent record into a layout: its fifty numbers, and after them the line's number, the bits of the radio status, the code and how many
@@ -166,59 +150,54 @@ fn read(state: &mut [u8], line: &[u8], number: u64, numbers: &mut [u64], texts: 
     code
 }
 
-// The answer to a line that was read, by its code and its layout: a message, nothing, or a refusal, with the sender that is told of it.
+// The answer to a line that was read, by its code and its layout: a message, nothing, or a refusal, with the sender that is told of it. The code is a number
+// since it is that of `record_read`, which the C interface fixes.
 fn put_told(
-    out: &mut [u8],
-    at: usize,
+    out: &mut Output,
     number: u64,
     code: u32,
     numbers: &[u64],
     texts: &[u8],
-    sender: Optional,
+    sender: Option<u64>,
     line: &[u8],
     show: Show,
     tally: &mut [u64],
-) -> usize
-    ensures { (o : Outcome) → Coded o code numbers.now
-        → (text result out.new
-        ≡ put (text at out.old) (shown_for show number sender line.now (outcome_in o) (layout_in numbers.now texts.now)))
+)
+    ensures same { out.new.buffer.ghost_name ≡ out.old.buffer.ghost_name }
+    ensures is { (o : Outcome) → Coded o code numbers.now
+        → (stands out.new ≡ put (stands out.old) (shown_for show number sender line.now (outcome_in o) (layout_in numbers.now texts.now)))
         × (tally.new ≡ tally_for tally.old line.now (outcome_in o) numbers.now) }
 {
     match code {
         0 => {
             summary::count(tally, 0, face_rows::number_at(numbers, TYPE));
-            face_json::put_message(out, at, numbers, texts)
+            face_json::put_message(out, numbers, texts);
         }
-        100 => {
-            summary::count(tally, 100, 0);
-            at
-        }
+        100 => summary::count(tally, 100, 0),
         _ => {
             let refused = RefusedLine {
-                number: number,
-                code: code,
+                number,
+                code,
                 first: face_rows::number_at(numbers, FIRST_VALUE),
                 second: face_rows::number_at(numbers, SECOND_VALUE),
             };
-            put_refusal(out, at, refused, sender, line, show, tally)
+            put_refusal(out, refused, sender, line, show, tally);
         }
     }
 }
 
 // A refusal of a line, with the sender that is told of it: counted, and put where refusals are shown.
 fn put_refusal(
-    out: &mut [u8],
-    at: usize,
+    out: &mut Output,
     refused: RefusedLine,
-    sender: Optional,
+    sender: Option<u64>,
     line: &[u8],
     show: Show,
     tally: &mut [u64],
-) -> usize
-    ensures { (refusal : Refusal) → Holds refusal refused
-        → (text result out.new
-        ≡ put (text at out.old)
-        (shown_by show (refused_object refused.number (row_of refusal).number (row_of refusal).values (about_by (row_of refusal).number sender line.now))))
+)
+    ensures same { out.new.buffer.ghost_name ≡ out.old.buffer.ghost_name }
+    ensures is { (refusal : Refusal) → Holds refusal refused
+        → (stands out.new ≡ put (stands out.old) (shown_by show (refused_object refused.number (row_of refusal).number (row_of refusal).values (about_by (row_of refusal).number sender line.now))))
         × (tally.new
         ≡ refused_tally tally.old (row_of refusal).number (other_of (row_of refusal).number line.now)) }
 {
@@ -227,13 +206,13 @@ fn put_refusal(
     match show {
         Show::All => {
             let beside = Beside {
-                sender: sender,
-                other: other,
+                sender,
+                other,
                 cut: line.len() > 100,
             };
-            put_refused(out, at, refused, beside, line)
+            put_refused(out, refused, beside, line);
         }
-        Show::Quiet => at,
+        Show::Quiet => {}
     }
 }
 
@@ -258,24 +237,15 @@ fn is_another(code: u32, line: &[u8]) -> bool
 }
 
 // A refusal with all that is told beside it.
-fn put_refused(
-    out: &mut [u8],
-    at: usize,
-    refused: RefusedLine,
-    beside: Beside,
-    line: &[u8],
-) -> usize
-    ensures { (refusal : Refusal) → Holds refusal refused
-        → text result out.new
-        ≡ put (text at out.old)
-        (refused_object refused.number (row_of refusal).number (row_of refusal).values
+fn put_refused(out: &mut Output, refused: RefusedLine, beside: Beside, line: &[u8])
+    ensures same { out.new.buffer.ghost_name ≡ out.old.buffer.ghost_name }
+    ensures is { (refusal : Refusal) → Holds refusal refused
+        → stands out.new ≡ put (stands out.old) (refused_object refused.number (row_of refusal).number (row_of refusal).values
         (record { sender = beside.sender; other = beside.other; text = line.now; cut = beside.cut })) }
 {
     let shown = text_out::up_to(100, line);
     let count = refusal::count_of(refused.code);
-    let cut = flag(beside.cut);
-    let other = flag(beside.other);
-    let sender = beside.sender;
+    let [sender_there, sender] = layout_numbers::two(beside.sender);
     let values = [refused.first, refused.second];
     let more = [
         refused.number,
@@ -283,20 +253,13 @@ fn put_refused(
         refused.code as u64,
         count,
         shown as u64,
-        cut,
-        sender.there,
-        sender.value,
-        other,
+        u64::from(beside.cut),
+        sender_there,
+        sender,
+        u64::from(beside.other),
     ];
     let mut numbers = [0u64; 59];
     layout_numbers::put_numbers(&mut numbers, FIRST_VALUE, &values);
     layout_numbers::put_numbers(&mut numbers, LINE, &more);
-    face_json::put_refused(out, at, &numbers, &line[..shown])
-}
-
-// A flag as a number.
-fn flag(b: bool) -> u64
-    ensures { result ≡ flag_of b }
-{
-    if b { 1 } else { 0 }
+    face_json::put_refused(out, &numbers, &line[..shown]);
 }

@@ -9,7 +9,7 @@ use Rattle.layout_answer.specs.Sentence.{code_of}
 use Rattle.layout_message.specs.Message.{message_texts}
 use Rattle.layout_answer.specs.Answer.{answer_numbers, told_in, told_of}
 
-pub together : (a : Answer) (numbers texts : List ℕ) {code p q : ℕ} {numbers' texts' : List ℕ} → code ≡ code_of (outcome_in a.outcome)
-    → text p numbers' ≡ put (text 0 numbers) (answer_numbers a) → text q texts' ≡ put (text 0 texts) (message_texts a.message)
+pub together : (a : Answer) (numbers texts : List ℕ) {code p : ℕ} {numbers' texts' : List ℕ} {x : Text} → code ≡ code_of (outcome_in a.outcome)
+    → text p numbers' ≡ put (text 0 numbers) (answer_numbers a) → x ≡ put (text 0 texts) (message_texts a.message) → texts' ≡ x.bytes
     → told_in code numbers' texts' ≡ told_of a numbers texts
-together a numbers texts c n t = rw (c, ap (λ (x : Text). x.bytes) n, ap (λ (x : Text). x.bytes) t)
+together a numbers texts c n t b = rw (c, ap (λ (x : Text). x.bytes) n, b, ap (λ (x : Text). x.bytes) t)

@@ -4,19 +4,18 @@ use mathlib.Core.List.{List}
 use Prim.Native.Nat.{ℕ}
 use lib.Dec.{eqb}
 use lib.ListN.{get_or}
+use Rattle.std.specs.Prelude.{Option, Some, None}
 use Rattle.refusal.specs.Words.{pick}
 use Rattle.refusal.specs.declared.Refusal.{Refusal}
 use Rattle.refusal.proofs.Unique.{the_by_number}
 use Rattle.sentence.specs.declared.TalkerId.{TalkerId}
 use Rattle.sentence.specs.declared.AisReportType.{AisReportType}
-use Rattle.sentence.specs.declared.Number.{Number}
-use Rattle.sentence.specs.declared.Channel.{Channel}
 use Rattle.answer.specs.Answer.{outcome_in}
-use Rattle.armour.specs.declared.TrueType.{TrueType}
 use Rattle.answer.specs.declared.Outcome.{Outcome}
 use Rattle.answer.specs.declared.Sentence.{Sentence}
 use Rattle.layout_answer.specs.Answer.{Tells, told_in}
-use Rattle.layout_answer.specs.Sentence.{code_of, values_of, talker_number, report_number, id_in, channel_in, type_in, sentence_numbers}
+use Rattle.layout_numbers.specs.Optional.{there_of, value_of}
+use Rattle.layout_answer.specs.Sentence.{code_of, values_of, talker_number, report_number, sentence_numbers}
 
 -- ---- the outcome
 abbrev outcome_by : ℕ → List ℕ → Outcome
@@ -82,17 +81,10 @@ report-back AisReportType.Unknown = refl
 report-back AisReportType.VDM = refl
 report-back AisReportType.VDO = refl
 
-id-back : (n : Number) → pick (eqb (id_in n).there 0) Number.Absent (Number.Of (id_in n).value) ≡ n
-id-back Number.Absent = refl
-id-back (Number.Of n) = refl
-
-channel-back : (c : Channel) → pick (eqb (channel_in c).there 0) Channel.Absent (Channel.Of (channel_in c).value) ≡ c
-channel-back Channel.Absent = refl
-channel-back (Channel.Of c) = refl
-
-type-back : (t : TrueType) → pick (eqb (type_in t).there 0) TrueType.Absent (TrueType.Of (type_in t).value) ≡ t
-type-back TrueType.Absent = refl
-type-back (TrueType.Of n) = refl
+-- what may be absent
+optional_back : (o : Option ℕ) → pick (eqb (there_of o) 0) None (Some (value_of o)) ≡ o
+optional_back None = refl
+optional_back (Some n) = refl
 
 abbrev sentence_by : List ℕ → Sentence
 sentence_by l = record {
@@ -100,18 +92,24 @@ sentence_by l = record {
   report_type = report_by (get_or l 1 0);
   num_fragments = get_or l 2 0;
   fragment_number = get_or l 3 0;
-  message_id = pick (eqb (get_or l 4 0) 0) Number.Absent (Number.Of (get_or l 5 0));
-  channel = pick (eqb (get_or l 6 0) 0) Channel.Absent (Channel.Of (get_or l 7 0));
+  message_id = pick (eqb (get_or l 4 0) 0) None (Some (get_or l 5 0));
+  channel = pick (eqb (get_or l 6 0) 0) None (Some (get_or l 7 0));
   fill_bit_count = get_or l 8 0;
   message_type = get_or l 9 0;
-  true_type = pick (eqb (get_or l 10 0) 0) TrueType.Absent (TrueType.Of (get_or l 11 0));
+  true_type = pick (eqb (get_or l 10 0) 0) None (Some (get_or l 11 0));
   payload_len = get_or l 12 0;
   sent_bits = get_or l 13 0;
 }
 
 sentence-back : (s : Sentence) → sentence_by (sentence_numbers s) ≡ s
 sentence-back s =
-    rw (talker-back s.talker_id, report-back s.report_type, id-back s.message_id, channel-back s.channel, type-back s.true_type)
+    rw (
+      talker-back s.talker_id,
+      report-back s.report_type,
+      optional_back s.message_id,
+      optional_back s.channel,
+      optional_back s.true_type,
+    )
 
 pub same_sentence : (s t : Sentence) → sentence_numbers s ≡ sentence_numbers t → s ≡ t
 same_sentence s t e = sym (sentence-back s) ∙ ap sentence_by e ∙ sentence-back t

@@ -3,13 +3,9 @@ use Rattle.std.specs.Prelude.{ℕ, List, [], ◌∷◌, length, get_or}
 use Rattle.refusal.specs.Words.{Told, taken, refused}
 use Rattle.sentence.specs.declared.TalkerId.{TalkerId}
 use Rattle.sentence.specs.declared.AisReportType.{AisReportType}
-use Rattle.sentence.specs.declared.Number.{Number}
-use Rattle.sentence.specs.declared.Channel.{Channel}
 use Rattle.answer.specs.Answer.{Progress, complete, unfinished}
-use Rattle.armour.specs.declared.TrueType.{TrueType}
 use Rattle.answer.specs.declared.Sentence.{Sentence}
-use Rattle.layout_numbers.specs.Optional.{absent, present}
-use Rattle.layout_numbers.specs.declared.Optional.{Optional}
+use Rattle.layout_numbers.specs.Optional.{there_of, value_of}
 
 -- what a call answers: 0 where a message is complete, 100 where more is to come, else document 01's number of the refusal
 abbrev pub code_of : Told Progress → ℕ
@@ -27,7 +23,7 @@ abbrev pub value_count : Told Progress → ℕ
 value_count (taken p) = 0
 value_count (refused n values) = length values
 
--- of unarmoring alone: how many bytes stand first in the output, or the value that a refusal also returns
+-- of what answers with a count, unarmoring alone and the writer: how many bytes stand first in the output, or the value that a refusal also returns
 abbrev pub count_of : Told ℕ → ℕ
 count_of (taken n) = n
 count_of (refused n values) = get_or values 0 0
@@ -52,19 +48,6 @@ report_number AisReportType.Unknown = 0
 report_number AisReportType.VDM = 1
 report_number AisReportType.VDO = 2
 
--- message number, channel and true type
-abbrev pub id_in : Number → Optional
-id_in Number.Absent = absent
-id_in (Number.Of n) = present n
-
-abbrev pub channel_in : Channel → Optional
-channel_in Channel.Absent = absent
-channel_in (Channel.Of c) = present c
-
-abbrev pub type_in : TrueType → Optional
-type_in TrueType.Absent = absent
-type_in (TrueType.Of n) = present n
-
 -- the sentence: fourteen numbers
 abbrev pub sentence_numbers : Sentence → List ℕ
 sentence_numbers s =
@@ -72,14 +55,14 @@ sentence_numbers s =
     ∷ report_number s.report_type
     ∷ s.num_fragments
     ∷ s.fragment_number
-    ∷ (id_in s.message_id).there
-    ∷ (id_in s.message_id).value
-    ∷ (channel_in s.channel).there
-    ∷ (channel_in s.channel).value
+    ∷ there_of s.message_id
+    ∷ value_of s.message_id
+    ∷ there_of s.channel
+    ∷ value_of s.channel
     ∷ s.fill_bit_count
     ∷ s.message_type
-    ∷ (type_in s.true_type).there
-    ∷ (type_in s.true_type).value
+    ∷ there_of s.true_type
+    ∷ value_of s.true_type
     ∷ s.payload_len
     ∷ s.sent_bits
     ∷ []

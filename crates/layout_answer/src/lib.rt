@@ -8,17 +8,16 @@ ghost use Rattle.std.specs.Prelude.{◌≡◌, length};
 ghost use Rattle.refusal.specs.Words.{number_in};
 ghost use Rattle.armour.specs.Unarmor.{unarmored_in};
 ghost use Rattle.answer.specs.Answer.{outcome_in, plainly};
-ghost use Rattle.layout_answer.specs.Sentence.{code_of, values_of, value_count, count_of, talker_number, report_number, id_in, channel_in, type_in};
-ghost use Rattle.layout_answer.specs.Sentence.{sentence_numbers};
+ghost use Rattle.layout_answer.specs.Sentence.{code_of, values_of, value_count, count_of, talker_number, report_number, sentence_numbers};
 ghost use Rattle.text_out.specs.Text.{text, put};
 ghost use Rattle.layout_message.specs.Message.{message_texts};
 ghost use Rattle.layout_answer.specs.Answer.{answer_numbers, told_in, told_of};
 
 use answer::{Answer, Outcome, Plain, Sentence};
-use armour::{TrueType, Unarmored};
-use layout_numbers::Optional;
+use layout_numbers::two;
 use refusal::Refusal;
-use sentence::{AisReportType, Channel, Number, TalkerId};
+use sentence::{AisReportType, TalkerId};
+use text_out::Output;
 
 // The code of an outcome.
 fn code(outcome: Outcome) -> u32
@@ -27,7 +26,7 @@ fn code(outcome: Outcome) -> u32
     match outcome {
         Outcome::Complete => 0,
         Outcome::Unfinished => 100,
-        Outcome::Refused(refusal) => refusal::number(refusal) as u32,
+        Outcome::Refused(refusal) => u32::from(refusal.number()),
     }
 }
 
@@ -35,7 +34,7 @@ fn code(outcome: Outcome) -> u32
 fn of_refusal(refusal: Refusal) -> [u64; 2]
     ensures { result ≡ values_of (outcome_in (Outcome.Refused refusal)) }
 {
-    let v = refusal::values_of(refusal);
+    let v = refusal.values();
     [v.first, v.second]
 }
 
@@ -57,37 +56,31 @@ pub fn value_count(outcome: Outcome) -> u64
     match outcome {
         Outcome::Complete => 0,
         Outcome::Unfinished => 0,
-        Outcome::Refused(refusal) => {
-            let v = refusal::values_of(refusal);
-            v.count
-        }
+        Outcome::Refused(refusal) => refusal.values().count,
     }
 }
 
-// The code of unarmoring alone: 0, or the refusal's number.
-pub fn unarmored_code(r: Unarmored) -> u32
+// The code of what answers with a count of bytes, unarmoring alone and the writer: 0, or the refusal's number.
+pub fn counted_code(r: Result<usize, Refusal>) -> u32
     ensures { result ≡ number_in (unarmored_in r) }
 {
     match r {
-        Unarmored::Bytes(_) => 0,
-        Unarmored::Refused(refusal) => refusal::number(refusal) as u32,
+        Ok(_) => 0,
+        Err(refusal) => u32::from(refusal.number()),
     }
 }
 
-// Its value: how many bytes there are, or the refusal's.
-pub fn unarmored_count(r: Unarmored) -> u64
+// Its value: how many bytes there are, or the refusal's first, 0 where it has none.
+pub fn counted(r: Result<usize, Refusal>) -> u64
     ensures { result ≡ count_of (unarmored_in r) }
 {
     match r {
-        Unarmored::Bytes(n) => n as u64,
-        Unarmored::Refused(refusal) => {
-            let values = of_refusal(refusal);
-            values[0]
-        }
+        Ok(n) => n as u64,
+        Err(refusal) => refusal.values().first,
     }
 }
 
-// A talker.
+// A talker. Not `From<TalkerId>`: the numbers are the layout's, and the crate of `TalkerId` knows none of them.
 fn of_talker(talker: TalkerId) -> u64
     ensures { result ≡ talker_number talker }
 {
@@ -106,7 +99,7 @@ fn of_talker(talker: TalkerId) -> u64
     }
 }
 
-// A report type.
+// A report type, in the same way.
 fn of_report(report: AisReportType) -> u64
     ensures { result ≡ report_number report }
 {
@@ -117,72 +110,26 @@ fn of_report(report: AisReportType) -> u64
     }
 }
 
-// A message number.
-fn of_id(number: Number) -> Optional
-    ensures { result ≡ id_in number }
-{
-    match number {
-        Number::Absent => Optional { there: 0, value: 0 },
-        Number::Of(n) => Optional {
-            there: 1,
-            value: n as u64,
-        },
-    }
-}
-
-// A channel.
-fn of_channel(channel: Channel) -> Optional
-    ensures { result ≡ channel_in channel }
-{
-    match channel {
-        Channel::Absent => Optional { there: 0, value: 0 },
-        Channel::Of(c) => Optional {
-            there: 1,
-            value: c as u64,
-        },
-    }
-}
-
-// A true type.
-fn of_type(sent: TrueType) -> Optional
-    ensures { result ≡ type_in sent }
-{
-    match sent {
-        TrueType::Absent => Optional { there: 0, value: 0 },
-        TrueType::Of(n) => Optional {
-            there: 1,
-            value: n as u64,
-        },
-    }
-}
-
 // A sentence.
 fn of_sentence(s: Sentence) -> [u64; 14]
     ensures { result ≡ sentence_numbers s }
 {
-    let talker_id = s.talker_id;
-    let report_type = s.report_type;
-    let message_id = s.message_id;
-    let on_channel = s.channel;
-    let true_type = s.true_type;
-    let talker = of_talker(talker_id);
-    let report = of_report(report_type);
-    let id = of_id(message_id);
-    let channel = of_channel(on_channel);
-    let its_type = of_type(true_type);
+    let [id_there, id] = two(s.message_id.map(u64::from));
+    let [channel_there, channel] = two(s.channel.map(u64::from));
+    let [true_type_there, true_type] = two(s.true_type.map(u64::from));
     [
-        talker,
-        report,
+        of_talker(s.talker_id),
+        of_report(s.report_type),
         s.num_fragments as u64,
         s.fragment_number as u64,
-        id.there,
-        id.value,
-        channel.there,
-        channel.value,
+        id_there,
+        id,
+        channel_there,
+        channel,
         s.fill_bit_count as u64,
         s.message_type as u64,
-        its_type.there,
-        its_type.value,
+        true_type_there,
+        true_type,
         s.payload_len as u64,
         s.sent_bits as u64,
     ]
@@ -196,7 +143,7 @@ pub fn tell(a: Answer, numbers: &mut [u64], texts: &mut [u8]) -> u32
     let outcome = a.outcome;
     let message = a.message;
     put_answer(numbers, 0, a);
-    layout_message::put_texts(texts, 0, message);
+    layout_message::put_texts(&mut Output::new(texts, 0), message);
     code(outcome)
 }
 
@@ -227,6 +174,6 @@ pub fn tell_plain(a: Plain, numbers: &mut [u64], texts: &mut [u8]) -> u32
     let c = layout_numbers::put_numbers(numbers, b, &heard);
     let d = layout_numbers::put_numbers(numbers, c, &zeros);
     layout_numbers::put_numbers(numbers, d, &zeros);
-    layout_message::put_no_texts(texts, 0);
+    layout_message::put_no_texts(&mut Output::new(texts, 0));
     code(outcome)
 }

@@ -3,35 +3,30 @@ ghost use Rattle.std.specs.Prelude.{◌≡◌};
 ghost use Rattle.layout_answer.specs.Sender.{plain_of, mmsi_of, sender_by, sender_of};
 
 use answer::Decode;
-use layout_numbers::Optional;
 use reassembly::Record;
 
 // The sender of a line that was refused with this number, where it is told.
-pub fn sender_of(code: u32, found: Record, line: &[u8]) -> Optional
+pub fn sender_of(code: u32, found: Record, line: &[u8]) -> Option<u64>
     ensures { result ≡ sender_of code found line.now }
 {
     if code == 10 {
-        return sender_sent(found, line);
+        sender_sent(found, line)
+    } else {
+        None
     }
-    Optional { there: 0, value: 0 }
 }
 
 // The sender by the payload, which a call with decoding off hands out.
-fn sender_sent(found: Record, line: &[u8]) -> Optional
+fn sender_sent(found: Record, line: &[u8]) -> Option<u64>
     ensures { result ≡ sender_by (plain_of found line.now) }
 {
     let mut payload = [0u8; 384];
     let mut bits = [0u8; 288];
     let s = ais::step(found, line, Decode::Off, &mut payload, &mut bits);
-    let sent = s.answer.sentence.sent_bits;
-    if sent < 38 {
-        return Optional { there: 0, value: 0 };
+    if s.answer.sentence.sent_bits < 38 {
+        return None;
     }
-    let mmsi = mmsi_of(&payload);
-    Optional {
-        there: 1,
-        value: mmsi,
-    }
+    Some(mmsi_of(&payload))
 }
 
 // The MMSI among the first characters of a payload.
@@ -40,6 +35,6 @@ fn mmsi_of(payload: &[u8]) -> u64
 {
     let mut bits = [0u8; 6];
     let k = text_out::up_to(7, payload);
-    armour::unarmor(&payload[..k], 0, &mut bits);
+    let _ = armour::unarmor(&payload[..k], 0, &mut bits);
     parsers::field(&bits, 8, 30)
 }

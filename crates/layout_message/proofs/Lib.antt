@@ -1,4 +1,3 @@
 pub mod StaticCounts
 pub mod Counts
-pub mod Textless
 pub mod Unused

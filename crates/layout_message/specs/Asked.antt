@@ -1,16 +1,9 @@
 -- The thirty-four numbers of an interrogation, type 15. What does not apply is 0.
 use Rattle.std.specs.Prelude.{ℕ, List, [], ◌∷◌, ◌++◌, get_or, replicate}
 use Rattle.interrogation.specs.Interrogation.{no_message, no_station}
-use Rattle.interrogation.specs.declared.SlotOffset.{SlotOffset}
 use Rattle.interrogation.specs.declared.Station.{Station}
 use Rattle.interrogation.specs.declared.Interrogation.{Interrogation}
-use Rattle.layout_numbers.specs.Optional.{absent, present}
-use Rattle.layout_numbers.specs.declared.Optional.{Optional}
-
--- a slot offset or none
-abbrev pub offset_in : SlotOffset → Optional
-offset_in SlotOffset.Absent = absent
-offset_in (SlotOffset.Of slots) = present slots
+use Rattle.layout_numbers.specs.Optional.{there_of, value_of}
 
 -- a station: its number, how many messages are asked of it, and for each the type and the slot offset
 abbrev pub station_numbers : Station → List ℕ
@@ -20,11 +13,11 @@ station_numbers s =
     s.mmsi
     ∷ s.count
     ∷ one.message_type
-    ∷ (offset_in one.slot_offset).there
-    ∷ (offset_in one.slot_offset).value
+    ∷ there_of one.slot_offset
+    ∷ value_of one.slot_offset
     ∷ two.message_type
-    ∷ (offset_in two.slot_offset).there
-    ∷ (offset_in two.slot_offset).value
+    ∷ there_of two.slot_offset
+    ∷ value_of two.slot_offset
     ∷ []
 
 -- kind 3, the sender, how many stations are asked, and the two

@@ -3,28 +3,29 @@
 
 ghost use Rattle.std.specs.Prelude.{◌≡◌, length, replicate, ◌++◌};
 ghost use Rattle.text_out.specs.Text.{text, put};
+ghost use Rattle.text_out.specs.Output.{Puts};
 ghost use Rattle.layout_message.specs.Static.{part_numbers, length_numbers, static_numbers, text_bytes};
 ghost use Rattle.layout_message.specs.Message.{message_numbers, message_texts};
-ghost use Rattle.layout_message.specs.Asked.{offset_in, station_numbers, asked_numbers};
+ghost use Rattle.layout_message.specs.Asked.{station_numbers, asked_numbers};
 
-use interrogation::{Interrogation, SlotOffset, Station};
-use layout_numbers::Optional;
+use interrogation::{Interrogation, Station};
+use layout_numbers::two;
 use messages::{AisMessage, Message};
 use parsers::Text;
 use static_data_report::{MessagePart, PartB, StaticDataReport, Texts};
+use text_out::Output;
 
 // A static data report, with the lengths of its texts.
 fn put_static(out: &mut [u64], at: usize, s: StaticDataReport, t: Texts) -> usize
     ensures { text result out.new ≡ put (text at out.old) (static_numbers s t) }
 {
-    let message_part = s.message_part;
     let sender = [
         2,
         s.message_type as u64,
         s.repeat_indicator as u64,
         s.mmsi as u64,
     ];
-    let told = part(message_part);
+    let told = part(s.message_part);
     let long = lengths(t);
     let rest = [0u64; 18];
     let a = layout_numbers::put_numbers(out, at, &sender);
@@ -64,48 +65,38 @@ fn part_b(b: PartB) -> [u64; 8]
 fn lengths(t: Texts) -> [u64; 4]
     ensures { result ≡ length_numbers t }
 {
-    let name = t.vessel_name;
-    let vendor = t.vendor_id;
-    let model = t.model_serial;
-    let callsign = t.callsign;
     [
-        name.len as u64,
-        vendor.len as u64,
-        model.len as u64,
-        callsign.len as u64,
+        t.vessel_name.len as u64,
+        t.vendor_id.len as u64,
+        t.model_serial.len as u64,
+        t.callsign.len as u64,
     ]
 }
 
 // The texts of a static data report, twenty bytes for each.
-fn put_static_texts(out: &mut [u8], at: usize, t: Texts) -> usize
-    ensures out_after { text result out.new ≡ put (text at out.old) (text_bytes t) }
+fn put_static_texts(out: &mut Output, t: Texts)
+    ensures out_after { Puts out.old out.new (text_bytes t) }
     ensures t_len { length (text_bytes t) ≡ 80 }
 {
-    let name = t.vessel_name;
-    let vendor = t.vendor_id;
-    let model = t.model_serial;
-    let callsign = t.callsign;
-    let a = put_text(out, at, name);
-    let b = put_text(out, a, vendor);
-    let c = put_text(out, b, model);
-    put_text(out, c, callsign)
+    put_text(out, t.vessel_name);
+    put_text(out, t.vendor_id);
+    put_text(out, t.model_serial);
+    put_text(out, t.callsign);
 }
 
 // A text, with the zeros of its unused places.
-fn put_text(out: &mut [u8], at: usize, t: Text) -> usize
-    ensures out_after { text result out.new ≡ put (text at out.old) t.bytes }
+fn put_text(out: &mut Output, t: Text)
+    ensures out_after { Puts out.old out.new t.bytes }
     ensures bytes_len { length t.bytes ≡ 20 }
 {
-    let held = t.bytes;
-    text_out::put_bytes(out, at, &held)
+    out.put_bytes(&t.bytes);
 }
 
 // Any message.
 pub fn put_message(out: &mut [u64], at: usize, m: Message) -> usize
     ensures { text result out.new ≡ put (text at out.old) (message_numbers m) }
 {
-    let content = m.content;
-    match content {
+    match m.content {
         AisMessage::Nothing => put_nothing(out, at),
         AisMessage::PositionReport(p) => layout_position::put_position(out, at, p),
         AisMessage::StaticDataReport(s) => put_static(out, at, s, m.texts),
@@ -122,30 +113,30 @@ fn put_nothing(out: &mut [u64], at: usize) -> usize
 }
 
 // The texts of any message: a static data report's, else zeros.
-pub fn put_texts(out: &mut [u8], at: usize, m: Message) -> usize
-    ensures out_after { text result out.new ≡ put (text at out.old) (message_texts m) }
+pub fn put_texts(out: &mut Output, m: Message)
+    ensures out_after { Puts out.old out.new (message_texts m) }
     ensures m_len { length (message_texts m) ≡ 80 }
 {
-    let content = m.content;
-    let AisMessage::StaticDataReport(_) = content else {
-        return put_no_texts(out, at);
+    let AisMessage::StaticDataReport(_) = m.content else {
+        put_no_texts(out);
+        return;
     };
-    put_static_texts(out, at, m.texts)
+    put_static_texts(out, m.texts);
 }
 
 // No texts.
-pub fn put_no_texts(out: &mut [u8], at: usize) -> usize
-    ensures { text result out.new ≡ put (text at out.old) (replicate 80 0) }
+pub fn put_no_texts(out: &mut Output)
+    ensures { Puts out.old out.new (replicate 80 0) }
 {
     let rest = [0u8; 80];
-    text_out::put_bytes(out, at, &rest)
+    out.put_bytes(&rest);
 }
 
 // An interrogation.
 fn put_asked(out: &mut [u64], at: usize, i: Interrogation) -> usize
     ensures { text result out.new ≡ put (text at out.old) (asked_numbers i) }
 {
-    let stations = i.stations;
+    let [first, second] = i.stations;
     let sender = [
         3,
         i.message_type as u64,
@@ -153,9 +144,7 @@ fn put_asked(out: &mut [u64], at: usize, i: Interrogation) -> usize
         i.mmsi as u64,
         i.count as u64,
     ];
-    let first = station(stations[0]);
-    let second = station(stations[1]);
-    put_runs(out, at, sender, first, second)
+    put_runs(out, at, sender, station(first), station(second))
 }
 
 // The sender's numbers, those of the two stations, and zeros up to 34.
@@ -179,34 +168,17 @@ fn put_runs(
 fn station(s: Station) -> [u64; 8]
     ensures { result ≡ station_numbers s }
 {
-    let messages = s.messages;
-    let one = messages[0];
-    let two = messages[1];
-    let first = one.slot_offset;
-    let second = two.slot_offset;
-    let a = of_offset(first);
-    let b = of_offset(second);
+    let [first, second] = s.messages;
+    let [first_there, first_offset] = two(first.slot_offset.map(u64::from));
+    let [second_there, second_offset] = two(second.slot_offset.map(u64::from));
     [
         s.mmsi as u64,
         s.count as u64,
-        one.message_type as u64,
-        a.there,
-        a.value,
-        two.message_type as u64,
-        b.there,
-        b.value,
+        first.message_type as u64,
+        first_there,
+        first_offset,
+        second.message_type as u64,
+        second_there,
+        second_offset,
     ]
-}
-
-// A slot offset.
-fn of_offset(offset: SlotOffset) -> Optional
-    ensures { result ≡ offset_in offset }
-{
-    match offset {
-        SlotOffset::Absent => Optional { there: 0, value: 0 },
-        SlotOffset::Of(slots) => Optional {
-            there: 1,
-            value: slots as u64,
-        },
-    }
 }

@@ -3,12 +3,16 @@
 
 ghost use Rattle.std.specs.Prelude.{◌≡◌, [], ◌∷◌, ◌+◌, ◌≤◌, length};
 ghost use Rattle.text_out.specs.Text.{text, put};
+ghost use Rattle.layout_numbers.specs.Optional.{two_of};
 
-// What may be absent: 0 and 0, or 1 and its number.
-#[derive(Clone, Copy)]
-pub struct Optional {
-    pub there: u64,
-    pub value: u64,
+// What may be absent, as two numbers: 0 and 0, or 1 and its number.
+pub fn two(o: Option<u64>) -> [u64; 2]
+    ensures { result ≡ two_of o }
+{
+    match o {
+        None => [0, 0],
+        Some(n) => [1, n],
+    }
 }
 
 // One number.
@@ -39,12 +43,9 @@ fn put_all(out: &mut [u64], at: usize, s: &[u64]) -> usize
     requires { at + length s.now ≤ length out.old }
     ensures { text result out.new ≡ put (text at out.old) s.now }
 {
-    let mut i = 0;
-    while i < s.len() {
-        out[at + i] = s[i];
-        i += 1;
-    }
-    at + i
+    let next = at + s.len();
+    out[at..next].copy_from_slice(s);
+    next
 }
 
 // Numbers of which some may not fit.
@@ -52,10 +53,8 @@ fn put_some(out: &mut [u64], at: usize, s: &[u64]) -> usize
     ensures { text result out.new ≡ put (text at out.old) s.now }
 {
     let mut p = at;
-    let mut i = 0;
-    while i < s.len() {
-        p = put_number(out, p, s[i]);
-        i += 1;
+    for &n in s {
+        p = put_number(out, p, n);
     }
     p
 }

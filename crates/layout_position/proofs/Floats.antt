@@ -7,7 +7,7 @@ use lib.Ieee.{Float, nan, inf, fin, binary32, up, down, ne, is_nan, to_bits}
 use borrow.Author.Tests.{eq-eqb}
 use Rattle.refusal.specs.Words.{pick}
 use Rattle.navigation.specs.Navigation.{finite_in}
-use Rattle.navigation.specs.declared.Reading.{Reading}
+use Rattle.std.specs.Prelude.{Some}
 use Rattle.navigation.proofs.Finite.{no_nan}
 use Rattle.layout_position.specs.Position.{pattern_of}
 
@@ -20,7 +20,7 @@ unlike_itself (fin true m e) = let a = m * up e * down e in rw (eq-eqb a a refl)
 unlike_itself (fin false m e) = let a = m * up e * down e in rw (eq-eqb a a refl)
 
 -- a finite reading, as every one of a decoded report is, stands as its own bit pattern
-pub finite_pattern : (x : Float) → T (finite_in (Reading.Value x)) → pattern_of x ≡ to_bits binary32 x
+pub finite_pattern : (x : Float) → T (finite_in (Some x)) → pattern_of x ≡ to_bits binary32 x
 finite_pattern x h = other (is_nan x) _ _ (no_nan x h)
   where
     other : (b : Bool) (s t : ℕ) → T (not b) → pick b s t ≡ t

@@ -1,20 +1,17 @@
 -- The thirty-four numbers of a position report, types 1 to 3. What does not apply is 0.
-use Rattle.std.specs.Prelude.{ℕ, ◌-◌, ◌^◌, Bool, List, [], ◌∷◌, ◌++◌, ℤ, pos, negsuc, Float}
+use Rattle.std.specs.Prelude.{ℕ, ◌-◌, ◌^◌, Bool, List, [], ◌∷◌, ◌++◌, ℤ, pos, negsuc, Float, Option, None, Some}
 use Rattle.std.specs.Float.{binary32}
 use Rattle.std.specs.Float.Ieee.{is_nan, to_bits}
 use Rattle.refusal.specs.Words.{pick}
 use Rattle.navigation.specs.Navigation.{accuracy_number, manoeuvre_number}
-use Rattle.navigation.specs.declared.Reading.{Reading}
-use Rattle.navigation.specs.declared.Heading.{Heading}
-use Rattle.navigation.specs.declared.Turn.{Turn}
+use Rattle.navigation.specs.declared.RateOfTurn.{RateOfTurn}
 use Rattle.navigation.specs.declared.Direction.{Direction}
 use Rattle.radio_status.specs.Radio.{sync_number}
 use Rattle.radio_status.specs.declared.SubMessage.{SubMessage}
 use Rattle.radio_status.specs.declared.RadioStatus.{RadioStatus}
 use Rattle.position_report.specs.Report.{status_number}
 use Rattle.position_report.specs.declared.PositionReport.{PositionReport}
-use Rattle.layout_numbers.specs.Optional.{absent, present}
-use Rattle.layout_numbers.specs.declared.Optional.{Optional}
+use Rattle.layout_numbers.specs.Optional.{there_of, value_of}
 
 -- a signed number: one below 0 with 2 ^ 64 added, as two's complement has it
 abbrev pub word_of : ℤ → ℕ
@@ -30,25 +27,20 @@ abbrev pub flag_of : Bool → ℕ
 flag_of b = pick b 1 0
 
 -- a speed, a course, a position or a rate: "absent or a single-precision value" (document 01, 'Fields and types')
-abbrev pub reading_in : Reading → Optional
-reading_in Reading.Absent = absent
-reading_in (Reading.Value x) = present (pattern_of x)
+abbrev pub reading_in : Option Float → Option ℕ
+reading_in None = None
+reading_in (Some x) = Some (pattern_of x)
 
 -- the turn as it was sent, or absent
-abbrev pub turn_in : Turn → Optional
-turn_in Turn.Absent = absent
-turn_in (Turn.Of turn) = present (word_of turn.raw)
-
--- the heading in degrees, or absent
-abbrev pub heading_in : Heading → Optional
-heading_in Heading.Absent = absent
-heading_in (Heading.Of degrees) = present degrees
+abbrev pub turn_in : Option RateOfTurn → Option ℕ
+turn_in None = None
+turn_in (Some turn) = Some (word_of turn.raw)
 
 -- "direction is port below 0, starboard above, none at 0": 1, 2 and 0
-abbrev pub direction_number : Direction → ℕ
-direction_number Direction.Absent = 0
-direction_number Direction.Port = 1
-direction_number Direction.Starboard = 2
+abbrev pub direction_number : Option Direction → ℕ
+direction_number None = 0
+direction_number (Some Direction.Port) = 1
+direction_number (Some Direction.Starboard) = 2
 
 -- kind 1, the sender, and how the ship moves
 abbrev pub movement_numbers : PositionReport → List ℕ
@@ -58,13 +50,13 @@ movement_numbers p =
     ∷ p.repeat_indicator
     ∷ p.mmsi
     ∷ status_number p.navigation_status
-    ∷ (turn_in p.rate_of_turn).there
-    ∷ (turn_in p.rate_of_turn).value
-    ∷ (reading_in p.rate).there
-    ∷ (reading_in p.rate).value
+    ∷ there_of (turn_in p.rate_of_turn)
+    ∷ value_of (turn_in p.rate_of_turn)
+    ∷ there_of (reading_in p.rate)
+    ∷ value_of (reading_in p.rate)
     ∷ direction_number p.direction
-    ∷ (reading_in p.speed_over_ground).there
-    ∷ (reading_in p.speed_over_ground).value
+    ∷ there_of (reading_in p.speed_over_ground)
+    ∷ value_of (reading_in p.speed_over_ground)
     ∷ p.speed_raw
     ∷ accuracy_number p.position_accuracy
     ∷ []
@@ -72,17 +64,17 @@ movement_numbers p =
 -- where it is, and which way
 abbrev pub positioned_numbers : PositionReport → List ℕ
 positioned_numbers p =
-    (reading_in p.longitude).there
-    ∷ (reading_in p.longitude).value
+    there_of (reading_in p.longitude)
+    ∷ value_of (reading_in p.longitude)
     ∷ word_of p.longitude_raw
-    ∷ (reading_in p.latitude).there
-    ∷ (reading_in p.latitude).value
+    ∷ there_of (reading_in p.latitude)
+    ∷ value_of (reading_in p.latitude)
     ∷ word_of p.latitude_raw
-    ∷ (reading_in p.course_over_ground).there
-    ∷ (reading_in p.course_over_ground).value
+    ∷ there_of (reading_in p.course_over_ground)
+    ∷ value_of (reading_in p.course_over_ground)
     ∷ p.course_raw
-    ∷ (heading_in p.true_heading).there
-    ∷ (heading_in p.true_heading).value
+    ∷ there_of p.true_heading
+    ∷ value_of p.true_heading
     ∷ p.timestamp
     ∷ manoeuvre_number p.maneuver_indicator
     ∷ flag_of p.raim

@@ -3,109 +3,63 @@
 
 ghost use Rattle.std.specs.Prelude.{◌≡◌};
 ghost use Rattle.text_out.specs.Text.{text, put};
-ghost use Rattle.layout_position.specs.Position.{word_of, pattern_of, flag_of, reading_in, turn_in, heading_in, direction_number, movement_numbers};
+ghost use Rattle.layout_position.specs.Position.{word_of, pattern_of, reading_in, turn_in, direction_number, movement_numbers};
 ghost use Rattle.layout_position.specs.Position.{positioned_numbers, radio_numbers, position_numbers};
 
-use layout_numbers::Optional;
-use navigation::{Direction, Heading, Reading, Turn};
-use position_report::PositionReport;
+use layout_numbers::two;
+use navigation::{Direction, ManeuverIndicator, RateOfTurn};
+use position_report::{NavigationStatus, PositionReport};
 use radio_status::{ItdmaMessage, RadioStatus, SotdmaMessage, SubMessage};
 
 // A position report.
 pub fn put_position(out: &mut [u64], at: usize, p: PositionReport) -> usize
     ensures { text result out.new ≡ put (text at out.old) (position_numbers p) }
 {
-    let status = p.radio_status;
-    let moves = movement(p);
-    let stands = position(p);
-    let sends = radio(status);
-    let a = layout_numbers::put_numbers(out, at, &moves);
-    let b = layout_numbers::put_numbers(out, a, &stands);
-    layout_numbers::put_numbers(out, b, &sends)
+    let a = layout_numbers::put_numbers(out, at, &movement(p));
+    let b = layout_numbers::put_numbers(out, a, &position(p));
+    layout_numbers::put_numbers(out, b, &radio(p.radio_status))
 }
 
 // A signed number.
 fn of_signed(v: i32) -> u64
     ensures { result ≡ word_of v }
 {
-    if v < 0 {
-        let m = -1 - v;
-        return 0xffff_ffff_ffff_ffff - m as u64;
-    }
-    v as u64
+    i64::from(v).cast_unsigned()
 }
 
-// A bit pattern.
-fn of_pattern(bits: u32) -> u64
-    ensures { result ≡ bits }
-{
-    bits as u64
-}
-
-// A float. A NaN alone differs from itself.
+// A float, by its bit pattern; a NaN has none of its own.
 fn of_float(x: f32) -> u64
     ensures { result ≡ pattern_of x }
 {
-    if x != x {
-        return 0x7fc0_0000;
+    if x.is_nan() {
+        0x7fc0_0000
+    } else {
+        u64::from(x.to_bits())
     }
-    of_pattern(f32::to_bits(x))
-}
-
-// A flag.
-fn of_flag(b: bool) -> u64
-    ensures { result ≡ flag_of b }
-{
-    if b { 1 } else { 0 }
 }
 
 // A reading.
-fn of_reading(reading: Reading) -> Optional
+fn of_reading(reading: Option<f32>) -> Option<u64>
     ensures { result ≡ reading_in reading }
 {
-    match reading {
-        Reading::Absent => Optional { there: 0, value: 0 },
-        Reading::Value(x) => Optional {
-            there: 1,
-            value: of_float(x),
-        },
-    }
+    reading.map(of_float)
 }
 
 // A turn.
-fn of_turn(turn: Turn) -> Optional
+fn of_turn(turn: Option<RateOfTurn>) -> Option<u64>
     ensures { result ≡ turn_in turn }
 {
-    match turn {
-        Turn::Absent => Optional { there: 0, value: 0 },
-        Turn::Of(sent) => Optional {
-            there: 1,
-            value: of_signed(sent.raw as i32),
-        },
-    }
+    turn.map(|sent| of_signed(i32::from(sent.raw)))
 }
 
 // A direction.
-fn of_direction(direction: Direction) -> u64
+fn of_direction(direction: Option<Direction>) -> u64
     ensures { result ≡ direction_number direction }
 {
     match direction {
-        Direction::Absent => 0,
-        Direction::Port => 1,
-        Direction::Starboard => 2,
-    }
-}
-
-// A heading.
-fn of_heading(heading: Heading) -> Optional
-    ensures { result ≡ heading_in heading }
-{
-    match heading {
-        Heading::Absent => Optional { there: 0, value: 0 },
-        Heading::Of(degrees) => Optional {
-            there: 1,
-            value: degrees as u64,
-        },
+        None => 0,
+        Some(Direction::Port) => 1,
+        Some(Direction::Starboard) => 2,
     }
 }
 
@@ -113,33 +67,24 @@ fn of_heading(heading: Heading) -> Optional
 fn movement(p: PositionReport) -> [u64; 14]
     ensures { result ≡ movement_numbers p }
 {
-    let navigation_status = p.navigation_status;
-    let rate_of_turn = p.rate_of_turn;
-    let turning = p.rate;
-    let side = p.direction;
-    let over_ground = p.speed_over_ground;
-    let position_accuracy = p.position_accuracy;
-    let status = navigation_status.number();
-    let turn = of_turn(rate_of_turn);
-    let rate = of_reading(turning);
-    let direction = of_direction(side);
-    let speed = of_reading(over_ground);
-    let accuracy = position_accuracy.number();
+    let [turn_there, turn] = two(of_turn(p.rate_of_turn));
+    let [rate_there, rate] = two(of_reading(p.rate));
+    let [speed_there, speed] = two(of_reading(p.speed_over_ground));
     [
         1,
-        p.message_type as u64,
-        p.repeat_indicator as u64,
-        p.mmsi as u64,
-        status as u64,
-        turn.there,
-        turn.value,
-        rate.there,
-        rate.value,
-        direction,
-        speed.there,
-        speed.value,
-        p.speed_raw as u64,
-        accuracy as u64,
+        u64::from(p.message_type),
+        u64::from(p.repeat_indicator),
+        u64::from(p.mmsi),
+        u64::from(NavigationStatus::number(p.navigation_status)),
+        turn_there,
+        turn,
+        rate_there,
+        rate,
+        of_direction(p.direction),
+        speed_there,
+        speed,
+        u64::from(p.speed_raw),
+        u64::from(u8::from(p.position_accuracy)),
     ]
 }
 
@@ -147,34 +92,27 @@ fn movement(p: PositionReport) -> [u64; 14]
 fn position(p: PositionReport) -> [u64; 14]
     ensures { result ≡ positioned_numbers p }
 {
-    let east = p.longitude;
-    let north = p.latitude;
-    let over_ground = p.course_over_ground;
-    let true_heading = p.true_heading;
-    let indicator = p.maneuver_indicator;
-    let longitude = of_reading(east);
+    let [longitude_there, longitude] = two(of_reading(p.longitude));
     let longitude_raw = of_signed(p.longitude_raw);
-    let latitude = of_reading(north);
+    let [latitude_there, latitude] = two(of_reading(p.latitude));
     let latitude_raw = of_signed(p.latitude_raw);
-    let course = of_reading(over_ground);
-    let heading = of_heading(true_heading);
-    let manoeuvre = indicator.number();
-    let raim = of_flag(p.raim);
+    let [course_there, course] = two(of_reading(p.course_over_ground));
+    let [heading_there, heading] = two(p.true_heading.map(u64::from));
     [
-        longitude.there,
-        longitude.value,
+        longitude_there,
+        longitude,
         longitude_raw,
-        latitude.there,
-        latitude.value,
+        latitude_there,
+        latitude,
         latitude_raw,
-        course.there,
-        course.value,
-        p.course_raw as u64,
-        heading.there,
-        heading.value,
-        p.timestamp as u64,
-        manoeuvre as u64,
-        raim,
+        course_there,
+        course,
+        u64::from(p.course_raw),
+        heading_there,
+        heading,
+        u64::from(p.timestamp),
+        u64::from(ManeuverIndicator::number(p.maneuver_indicator)),
+        u64::from(p.raim),
     ]
 }
 
@@ -182,15 +120,13 @@ fn position(p: PositionReport) -> [u64; 14]
 fn sotdma(m: SotdmaMessage) -> [u64; 6]
     ensures { result ≡ radio_numbers (RadioStatus.Sotdma m) }
 {
-    let state = m.sync_state;
-    let sub_message = m.sub_message;
-    let timeout = m.slot_timeout as u64;
-    let sync = state.number() as u64;
-    match sub_message {
-        SubMessage::SlotOffset(n) => [1, sync, timeout, 1, n as u64, 0],
-        SubMessage::UtcHourAndMinute(h, m) => [1, sync, timeout, 2, h as u64, m as u64],
-        SubMessage::SlotNumber(n) => [1, sync, timeout, 3, n as u64, 0],
-        SubMessage::ReceivedStations(n) => [1, sync, timeout, 4, n as u64, 0],
+    let sync = u64::from(u8::from(m.sync_state));
+    let timeout = u64::from(m.slot_timeout);
+    match m.sub_message {
+        SubMessage::SlotOffset(n) => [1, sync, timeout, 1, u64::from(n), 0],
+        SubMessage::UtcHourAndMinute(h, m) => [1, sync, timeout, 2, u64::from(h), u64::from(m)],
+        SubMessage::SlotNumber(n) => [1, sync, timeout, 3, u64::from(n), 0],
+        SubMessage::ReceivedStations(n) => [1, sync, timeout, 4, u64::from(n), 0],
     }
 }
 
@@ -198,12 +134,14 @@ fn sotdma(m: SotdmaMessage) -> [u64; 6]
 fn itdma(m: ItdmaMessage) -> [u64; 6]
     ensures { result ≡ radio_numbers (RadioStatus.Itdma m) }
 {
-    let state = m.sync_state;
-    let increment = m.slot_increment as u64;
-    let slots = m.num_slots as u64;
-    let keep = of_flag(m.keep);
-    let sync = state.number() as u64;
-    [2, sync, increment, slots, keep, 0]
+    [
+        2,
+        u64::from(u8::from(m.sync_state)),
+        u64::from(m.slot_increment),
+        u64::from(m.num_slots),
+        u64::from(m.keep),
+        0,
+    ]
 }
 
 // The radio status.

@@ -234,6 +234,10 @@ module _ (m n : ℕ) (buf : List ℕ) (room : m ≤ length buf) (few : n ≤ m +
             room = room;
           }
 
+  -- nothing more is kept of it
+  pub held_kept : record { len = n; line = buf } ≡ kept_of m (held_of m n buf) buf
+  held_kept = rw (sym held_holds.counts, held_holds.stands)
+
 -- one byte more: it is stored while there is room, a CR after m bytes is remembered, anything else there is too long
 module _ (m n : ℕ) (buf : List ℕ) (room : m ≤ length buf) (x : ℕ) where
   pub push_short : n < m → record { len = n + 1; line = set buf n x } ≡ kept_of m (held_of m n buf ++ x ∷ []) buf

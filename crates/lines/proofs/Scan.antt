@@ -1,55 +1,36 @@
--- The bytes before the next LF, from a place of a block on, and those held after which they come.
--- Assumes nothing.
-use Prim.Native.Nat.{ℕ, ◌+◌, ◌≤◌, ◌<◌}
-use native.Mathlib.Omega.{arith}
-use native.Mathlib.Numerals.{add-one}
-use mathlib.Core.Path.{◌≡◌, sym, ap, ◌∙◌}
-use mathlib.Core.List.{List, [], ◌∷◌, ◌++◌, append_assoc, append-nil}
-use lib.ListN.{length, get_or, drop, drop_of_length-le}
-use lib.Seq.{drop-cons}
-use borrow.Author.Tests.{eq-eqb, ne_eqb}
+-- The bytes before the first LF, by the place at which the library's search finds it. Assumes nothing.
+use Rattle.std.proofs.Common.{ℕ, suc, ◌+◌, ◌<◌, ◌≡◌, ◌∙◌, refl, ap, Bool, true, false, not, cond, List, [], ◌∷◌, length, take, Some, None, arith}
+use Rattle.std.specs.Prelude.{position}
+use Rattle.std.specs.List.{position_or_len}
+use Rattle.std.proofs.lemmas.List.Quantifiers.{position-Some}
+use Rattle.std.proofs.lemmas.List.Sums.{position_or_len_is}
+use Rattle.std.proofs.lemmas.Grind.{common_steps}
+use lib.Seq.{take_all}
+use lib.Dec.{eqb}
+use Rattle.refusal.specs.Words.{pick}
 use Rattle.lines.specs.Lines.{until_lf}
-use Rattle.lines.specs.Held.{Kept, kept_of, held_of}
-use Rattle.lines.proofs.Keeping.{kept_more, held_holds}
 
-module _ (s : List ℕ) (i : ℕ) where
-  pub until_here : i < length s → get_or s i 0 ≡ 10 → until_lf (drop i s) ≡ []
-  unfolding until_lf
-  until_here h e = rw (drop-cons s i 0 h, eq-eqb (get_or s i 0) 10 e)
+abbrev is_lf : ℕ → Bool
+is_lf x = eqb x 10
 
-  pub until_next : i < length s → (get_or s i 0 ≡ 10 → ⊥) → until_lf (drop i s) ≡ get_or s i 0 ∷ until_lf (drop (i + 1) s)
-  unfolding until_lf
-  until_next h d = rw (drop-cons s i 0 h, ne_eqb (get_or s i 0) 10 d, add-one i)
+until_is : (s : List ℕ) → until_lf s ≡ take (position_or_len is_lf s) s
+unfolding until_lf
+until_is [] = refl
+until_is (x ∷ s) = go (is_lf x) (until_is s)
+  where
+    go : (b : Bool) → until_lf s ≡ take (position_or_len is_lf s) s
+        → pick b [] (x ∷ until_lf s) ≡ take (cond (not b) (1 + position_or_len is_lf s) 0) (x ∷ s)
+    go true e = refl
+    go false e =
+        let one : suc (position_or_len is_lf s) ≡ 1 + position_or_len is_lf s = omega arith in
+        ap (λ (t : List ℕ). x ∷ t) e ∙ ap (λ (k : ℕ). take k (x ∷ s)) one
 
-  pub until_end : length s ≤ i → until_lf (drop i s) ≡ []
-  unfolding until_lf
-  until_end h = rw (drop_of_length-le s h)
+-- an LF at k
+pub at_lf : (s : List ℕ) (k : ℕ) → position is_lf s ≡ Some k → (k < length s) × (until_lf s ≡ take k s)
+at_lf s k e =
+    let h = position-Some is_lf s k 0 e in
+    (h.0, until_is s ∙ ap (λ (i : ℕ). take i s) (position_or_len_is is_lf s k 0 (omega (arith, h.0)) h.2 (λ _. h.1)))
 
--- where the line ends and what is kept of it by then, from the place i on with the number n held in buf
-pub record Reach : Type 0 where
-  pub at : ℕ
-  pub kept : Kept
-
-abbrev pub reach : ℕ → List ℕ → ℕ → ℕ → List ℕ → Reach
-reach m s i n buf = record { at = i + length (until_lf (drop i s)); kept = kept_of m (held_of m n buf ++ until_lf (drop i s)) buf }
-
--- at an LF or at the end of the block: what is there
-pub reach_stop : (m : ℕ) (s : List ℕ) (i n : ℕ) (buf : List ℕ) → m ≤ length buf → n ≤ m + 2 → until_lf (drop i s) ≡ []
-    → reach m s i n buf ≡ record { at = i; kept = record { len = n; line = buf } }
-reach_stop m s i n buf room few e =
-    let h = held_holds m n buf room few in
-    let z : i + length (until_lf (drop i s)) ≡ i = ap (λ (t : List ℕ). i + length t) e ∙ omega arith in
-    rw (z, e, append-nil (held_of m n buf), sym h.counts, h.stands)
-
--- a byte that is no LF: the same is reached from the next place, with the byte kept
-pub reach_next : (m : ℕ) (s : List ℕ) (i n : ℕ) (buf : List ℕ) → m ≤ length buf → i < length s → (get_or s i 0 ≡ 10 → ⊥)
-    → (n' : ℕ) (buf' : List ℕ) → record { len = n'; line = buf' } ≡ kept_of m (held_of m n buf ++ get_or s i 0 ∷ []) buf
-    → reach m s (i + 1) n' buf' ≡ reach m s i n buf
-reach_next m s i n buf room l d n' buf' e =
-    let p : List ℕ = until_lf (drop (i + 1) s) in
-    let u : until_lf (drop i s) ≡ get_or s i 0 ∷ p = until_next s i l d in
-    let z : i + 1 + length p ≡ i + length (until_lf (drop i s)) = sym (ap (λ (t : List ℕ). i + length t) u ∙ omega arith) in
-    let k : kept_of m (held_of m n' buf' ++ p) buf' ≡ kept_of m (held_of m n buf ++ until_lf (drop i s)) buf =
-    kept_more m (held_of m n buf ++ get_or s i 0 ∷ []) buf room n' buf' e p
-    ∙ ap (λ (t : List ℕ). kept_of m t buf) (append_assoc (held_of m n buf) (get_or s i 0 ∷ []) p ∙ ap (λ (t : List ℕ). held_of m n buf ++ t) (sym u)) in
-    λ j. record { at = z j; kept = k j }
+-- no LF
+pub no_lf : (s : List ℕ) → position is_lf s ≡ None → until_lf s ≡ s
+no_lf s e = until_is s ∙ take_all (position_or_len is_lf s) s (grind (arith, common_steps))

@@ -3,8 +3,8 @@
 
 pub mod texts;
 
-ghost use Rattle.std.specs.Prelude.{◌≡◌, [], ◌∷◌, ◌++◌, ◌+◌, min, length, drop};
-ghost use Rattle.lines.specs.Lines.{until_lf, ends_in_cr, line_len};
+ghost use Rattle.std.specs.Prelude.{◌≡◌, ◌==◌, [], ◌∷◌, ◌++◌, drop, position};
+ghost use Rattle.lines.specs.Lines.{ends_in_cr, line_len};
 ghost use Rattle.lines.specs.Held.{Within, kept_of, held_of};
 ghost use Rattle.lines.specs.Collect.{event_of, collect_of, last_of, collected_in};
 
@@ -31,13 +31,6 @@ pub struct Collected {
     pub event: Event,
 }
 
-// How much is held after a run of bytes, and the place after them.
-#[derive(Clone, Copy)]
-struct Gathered {
-    len: usize,
-    at: usize,
-}
-
 // A new collector is empty.
 pub fn new() -> Collector
     ensures { result.len ≡ 0 }
@@ -59,22 +52,26 @@ pub fn collect_to(
     let m = most as usize;
     if line.len() < m {
         return Collected {
-            state: state,
+            state,
             event: Event::Room,
         };
     }
-    let len = least(state.len, m + 2);
-    let g = gather(len, m, block, from, line);
-    if g.at < block.len() {
-        let event = ended(g.len, m, strip, line, g.at + 1);
-        return Collected {
-            state: Collector { len: 0 },
-            event: event,
-        };
-    }
-    Collected {
-        state: Collector { len: g.len },
-        event: Event::Held,
+    let len = state.len.min(m + 2);
+    let rest = rest_of(block, from);
+    match lf_in(rest) {
+        Some(n) => {
+            let held = hold(len, m, &rest[..n], line);
+            Collected {
+                state: Collector { len: 0 },
+                event: ended(held, m, strip, line, from + n + 1),
+            }
+        }
+        None => Collected {
+            state: Collector {
+                len: hold(len, m, rest, line),
+            },
+            event: Event::Held,
+        },
     }
 }
 
@@ -89,27 +86,34 @@ pub fn last(state: Collector, most: u16, strip: bool, line: &[u8]) -> Event
     if state.len == 0 {
         return Event::Held;
     }
-    ended(least(state.len, m + 2), m, strip, line, 0)
+    ended(state.len.min(m + 2), m, strip, line, 0)
 }
 
-// Takes in the bytes of the block before its next LF, or all that are left.
-fn gather(len: usize, most: usize, block: &[u8], from: usize, line: &mut [u8]) -> Gathered
+// The bytes of a block from a place on: none past its end.
+fn rest_of(block: &[u8], from: usize) -> &[u8]
+    ensures { result.now ≡ drop from block.now }
+{
+    &block[from.min(block.len())..]
+}
+
+// The place of the first LF.
+fn lf_in(bytes: &[u8]) -> Option<usize>
+    ensures { result ≡ position (λ b. b == 10) bytes.now }
+{
+    bytes.iter().position(|&b| b == b'\n')
+}
+
+// More bytes of the line. `Within` is a clause of each inner function: a struct of all three would borrow the buffer mutably here and shared in `ended`, so
+// that two types would carry it.
+fn hold(len: usize, most: usize, bytes: &[u8], line: &mut [u8]) -> usize
     requires { Within most len line.old }
-    ensures at_value { result.at ≡ from + length (until_lf (drop from block.now)) }
-    ensures line_after { record { len = result.len; line = line.new }
-        ≡ kept_of most (held_of most len line.old ++ until_lf (drop from block.now)) line.old }
+    ensures { record { len = result; line = line.new } ≡ kept_of most (held_of most len line.old ++ bytes.now) line.old }
 {
     let mut n = len;
-    let mut i = from;
-    while i < block.len() {
-        let b = block[i];
-        if b == 10 {
-            return Gathered { len: n, at: i };
-        }
+    for &b in bytes {
         n = push(n, most, b, line);
-        i += 1;
     }
-    Gathered { len: n, at: i }
+    n
 }
 
 // One byte more of the line: it is stored while there is room.
@@ -167,11 +171,4 @@ fn ends_in_cr(len: usize, most: usize, line: &[u8]) -> bool
         return len == most + 1;
     }
     line[len - 1] == 13
-}
-
-// The lesser of two numbers.
-fn least(a: usize, b: usize) -> usize
-    ensures { result ≡ min a b }
-{
-    if a < b { a } else { b }
 }

@@ -7,37 +7,39 @@ use Prim.Native.Nat.{ℕ}
 use native.Mathlib.Omega.{arith}
 use borrow.Author.Tests.{eqb-true, ne_eqb}
 use lib.Dec.{eqb}
+use Rattle.std.specs.Prelude.{Result, Ok, Err}
 use Rattle.refusal.specs.Words.{pick, within, is_empty, Told, taken, refused, check, checked}
 use Rattle.refusal.specs.Order.{First}
+use Rattle.refusal.specs.declared.Refusal.{Refusal}
 use Rattle.refusal.proofs.Order.{exactly}
 use Rattle.refusal.proofs.Unique.{untold, untold_told}
 use Rattle.refusal.proofs.Within.{range_in, below_range}
 use Rattle.static_data_report.specs.StaticData.{static_data_of}
 use Rattle.interrogation.specs.Interrogation.{interrogated_of}
-use Rattle.messages.specs.Messages.{Decoding, parse_in, decoded_in, type_of, other_type, unknown_type, ends_position, ends_static, ends_asked}
+use Rattle.messages.specs.Messages.{Decoding, no_message, parse_in, decoded_in, type_of, other_type, unknown_type, ends_position, ends_static, ends_asked}
 use Rattle.messages.specs.Messages.{ends_inside, decode_checks, ordered_checks, decoded_of}
-use Rattle.messages.specs.declared.ParseOutcome.{ParseOutcome}
-use Rattle.messages.specs.declared.ParseOutcome.TheVariants as outcome
-use Rattle.messages.specs.declared.Decoded.{Decoded}
+use Rattle.messages.specs.declared.Message.{Message}
 
 -- ---- nothing is lost on paper
-abbrev outcome_by : Told Unit → ParseOutcome
-outcome_by = untold (λ _. outcome.Taken) outcome.Refused
+abbrev outcome_by : Told Unit → Result Unit Refusal
+outcome_by = untold Ok Err
 
-outcome_back : (o : ParseOutcome) → outcome_by (parse_in o) ≡ o
-outcome_back outcome.Taken = refl
-outcome_back (outcome.Refused r) = untold_told {A = Unit} (λ _. outcome.Taken) outcome.Refused r
+outcome_back : (o : Result Unit Refusal) → outcome_by (parse_in o) ≡ o
+outcome_back (Ok u) = refl
+outcome_back (Err r) = untold_told {A = Unit} Ok Err r
 
-pub same_parse : (o p : ParseOutcome) → parse_in o ≡ parse_in p → o ≡ p
+-- two outcomes that tell the same, whatever the message
+pub same_parse : (o p : Result Unit Refusal) → parse_in o ≡ parse_in p → o ≡ p
 same_parse o p e = sym (outcome_back o) ∙ ap outcome_by e ∙ outcome_back p
 
-abbrev decoded_by : Decoding → Decoded
-decoded_by d = record { outcome = outcome_by d.told; message = d.message }
+abbrev decoded_by : Decoding → Result Message Refusal
+decoded_by d = untold (λ _. Ok d.message) Err d.told
 
-decoded_back : (d : Decoded) → decoded_by (decoded_in d) ≡ d
-decoded_back d = rw (outcome_back d.outcome)
+decoded_back : (d : Result Message Refusal) → decoded_by (decoded_in d) ≡ d
+decoded_back (Ok m) = refl
+decoded_back (Err r) = untold_told {A = Unit} (λ _. Ok no_message) Err r
 
-pub same_decoded : (a b : Decoded) → decoded_in a ≡ decoded_in b → a ≡ b
+pub same_decoded : (a b : Result Message Refusal) → decoded_in a ≡ decoded_in b → a ≡ b
 same_decoded a b e = sym (decoded_back a) ∙ ap decoded_by e ∙ decoded_back b
 
 -- ---- the order. A type that has a needed field is neither of 10 nor of 11
@@ -65,8 +67,8 @@ module _ (k : ℕ) where
   ends_read : (d : List ℕ) → ends_inside k d ≡ true → (other_type k ≡ false) × (unknown_type k ≡ false)
   unfolding ends_inside
   ends_read d =
-      read-types (within 1 3 k) (eqb k 15) (eqb k 24) (ends_position d) (ends_asked (interrogated_of d).outcome)
-      (ends_static (static_data_of d).report) (other_type k) position-read (λ e. asked-read (eqb-true k 15 e)) (λ e. static_read (eqb-true k 24 e))
+      read-types (within 1 3 k) (eqb k 15) (eqb k 24) (ends_position d) (ends_asked (interrogated_of d))
+      (ends_static (static_data_of d)) (other_type k) position-read (λ e. asked-read (eqb-true k 15 e)) (λ e. static_read (eqb-true k 24 e))
 
 -- "9 if empty, then 10 or 11, then 9": the one list and document 01's tell the same
 pub in_order : {A : Type 0} (d : List ℕ) (t : Told A) → checked (decode_checks d) t ≡ checked (ordered_checks d) t

@@ -1,4 +1,5 @@
 -- No reading that is handed out is a NaN or an infinity: not at any `i32`, any `u16` or any `i8`. Assumes nothing.
+use Rattle.std.specs.Prelude.{Some}
 use mathlib.Core.Path.{refl}
 use Prim.Native.Nat.{ℕ, suc, ◌*◌, ◌^◌, ◌≤◌, ◌<◌}
 use native.Mathlib.Nat.{le_of_lt, lt_of_le_of_lt, mul-le-mul}
@@ -11,7 +12,6 @@ use lib.Pow.{pow_pos}
 use lib.Ieee.{Float, binary32, round, of_int, mul, div, is_nan}
 use lib.Ieee.Exact.{HasValue}
 use lib.Ieee.Scale.{finite}
-use Rattle.navigation.specs.declared.Reading.{Reading}
 use Rattle.navigation.specs.Navigation.{single, unless, eq_int, finite_in, tenths_of, no_speed, speed_of}
 use Rattle.navigation.specs.Navigation.{no_course, course_of, degrees_of, coordinate_of, root_of, no_rate, rate_of}
 use Rattle.navigation.proofs.Values.{exact, finite_no_nan}
@@ -89,5 +89,5 @@ pub rate_finite : (raw : ℤ) → mag raw < 2 ^ 7 → T (finite_in (rate_of raw)
 rate_finite raw h = holds (no_rate raw) (mul binary32 (root_of raw) (root_of raw)) (square_finite raw h)
 
 -- so the bits of a value can be read
-pub no_nan : (x : Float) → T (finite_in (Reading.Value x)) → T (not (is_nan x))
+pub no_nan : (x : Float) → T (finite_in (Some x)) → T (not (is_nan x))
 no_nan x h = finite_no_nan x h

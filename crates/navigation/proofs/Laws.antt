@@ -1,18 +1,18 @@
 -- What is kept and what is lost between a raw number and its reading. Assumes nothing.
+use Rattle.std.specs.Prelude.{Option, Some, None}
 use mathlib.Core.Path.{◌≡◌, refl, sym, ◌∙◌}
 use mathlib.Core.Bool.{Bool, true, false}
 use Prim.Native.Nat.{ℕ}
 use lib.Dec.{eqb}
 use lib.IntN.{ℤ, pos}
-use lib.Ieee.{fin, binary32, round, of_int}
+use lib.Ieee.{Float, fin, binary32, round, of_int}
 use borrow.Author.Tests.{eqb-true}
 use Rattle.refusal.specs.Words.{pick}
 use Rattle.navigation.specs.declared.ManeuverIndicator.{ManeuverIndicator}
-use Rattle.navigation.specs.declared.Reading.{Reading}
 use Rattle.navigation.specs.Navigation.{Coordinate, manoeuvre_of, manoeuvre_number}
 
 -- the promise of a longitude or a latitude has one outcome
-pub coordinate_unique : (absent raw : ℤ) (r s : Reading) → Coordinate absent raw r → Coordinate absent raw s → r ≡ s
+pub coordinate_unique : (absent raw : ℤ) (r s : Option Float) → Coordinate absent raw r → Coordinate absent raw s → r ≡ s
 coordinate_unique absent raw r s p q = p.is ∙ sym q.is
 
 -- a manoeuvre indicator keeps its number
@@ -20,8 +20,8 @@ pub manoeuvre-number : (raw : ℕ) → manoeuvre_number (manoeuvre_of raw) ≡ r
 manoeuvre-number raw = go (eqb raw 0) (eqb raw 1) (eqb raw 2) refl refl refl
   where
     go : (a b c : Bool) → eqb raw 0 ≡ a → eqb raw 1 ≡ b → eqb raw 2 ≡ c
-        → manoeuvre_number (pick a ManeuverIndicator.Absent
-        (pick b ManeuverIndicator.NoSpecialManeuver (pick c ManeuverIndicator.SpecialManeuver (ManeuverIndicator.Unknown raw))))
+        → manoeuvre_number (pick a None
+        (pick b (Some ManeuverIndicator.NoSpecialManeuver) (pick c (Some ManeuverIndicator.SpecialManeuver) (Some (ManeuverIndicator.Unknown raw)))))
         ≡ raw
     go true b c h k l = sym (eqb-true raw 0 h)
     go false true c h k l = sym (eqb-true raw 1 k)

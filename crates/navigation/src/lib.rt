@@ -1,20 +1,13 @@
 // Speed, course, position, turn, heading, accuracy and manoeuvre of a report (messages/navigation.rs).
-// Every function answers for every number that its type holds. A value is absent at document 01's number alone, and is else as sent.
+// Every function answers for every number that its type holds. A value is absent, `None`, at document 01's number alone, and is else as sent.
 #![tactic(auto)]
 
 ghost use Rattle.std.specs.Prelude.{◌≡◌};
 ghost use Rattle.navigation.specs.Navigation.{tenths_of, speed_of, course_of, degrees_of, longitude_absent, latitude_absent, Coordinate, heading_of};
 ghost use Rattle.navigation.specs.Navigation.{turn_of, rate_of, direction_of, accuracy_of, accuracy_number, manoeuvre_of, manoeuvre_number};
 
-// A reading of speed, course, longitude, latitude or rate of turn: absent, or the value. One enum serves them all, so that what is said
-// of an absent reading is said once.
-#[derive(Clone, Copy)]
-pub enum Reading {
-    Absent,
-    Value(f32),
-}
-
 // Tenths of a knot or of a degree.
+#[tactic(auto, using(crate::proofs::Constants::ten))]
 fn tenths(raw: u16) -> f32
     ensures { result ≡ tenths_of raw }
 {
@@ -22,12 +15,12 @@ fn tenths(raw: u16) -> f32
 }
 
 // The speed over ground in knots.
-pub fn parse_speed_over_ground(raw: u16) -> Reading
+pub fn parse_speed_over_ground(raw: u16) -> Option<f32>
     ensures { result ≡ speed_of raw }
 {
     match raw {
-        1023 => Reading::Absent,
-        _ => Reading::Value(tenths(raw)),
+        1023 => None,
+        _ => Some(tenths(raw)),
     }
 }
 
@@ -42,49 +35,42 @@ fn degrees(raw: i32) -> f32
 }
 
 // The longitude in degrees, east above 0.
-pub fn parse_longitude(raw: i32) -> Reading
+pub fn parse_longitude(raw: i32) -> Option<f32>
     ensures { Coordinate longitude_absent raw result }
 {
     match raw {
-        108_600_000 => Reading::Absent,
-        _ => Reading::Value(degrees(raw)),
+        108_600_000 => None,
+        _ => Some(degrees(raw)),
     }
 }
 
 // The latitude in degrees, north above 0.
-pub fn parse_latitude(raw: i32) -> Reading
+pub fn parse_latitude(raw: i32) -> Option<f32>
     ensures { Coordinate latitude_absent raw result }
 {
     match raw {
-        54_600_000 => Reading::Absent,
-        _ => Reading::Value(degrees(raw)),
+        54_600_000 => None,
+        _ => Some(degrees(raw)),
     }
 }
 
 // The course over ground in degrees.
-pub fn parse_cog(raw: u16) -> Reading
+pub fn parse_cog(raw: u16) -> Option<f32>
     ensures { result ≡ course_of raw }
 {
     match raw {
-        3600 => Reading::Absent,
-        _ => Reading::Value(tenths(raw)),
+        3600 => None,
+        _ => Some(tenths(raw)),
     }
 }
 
 // The true heading in whole degrees.
-#[derive(Clone, Copy)]
-pub enum Heading {
-    Absent,
-    Of(u16),
-}
-
-// The true heading.
-pub fn parse_heading(raw: u16) -> Heading
+pub fn parse_heading(raw: u16) -> Option<u16>
     ensures { result ≡ heading_of raw }
 {
     match raw {
-        511 => Heading::Absent,
-        _ => Heading::Of(raw),
+        511 => None,
+        _ => Some(raw),
     }
 }
 
@@ -96,20 +82,22 @@ pub enum Accuracy {
 }
 
 impl Accuracy {
-    // The accuracy's one bit is a bool, so that Rust's `unreachable!` arm has no place.
+    // The accuracy's one bit is a bool, so that Rust's `unreachable!` arm has no place. No `From`: `parse` is the crate's name for it.
     pub fn parse(bit: bool) -> Self
         ensures { result ≡ accuracy_of bit }
     {
         if bit { Self::Dgps } else { Self::Unaugmented }
     }
+}
+
+impl From<Accuracy> for u8 {
+    ghost from_gives = { λ accuracy n. n ≡ accuracy_number accuracy };
 
     // The bit as a number.
-    pub fn number(self) -> u8
-        ensures { result ≡ accuracy_number self }
-    {
-        match self {
-            Self::Unaugmented => 0,
-            Self::Dgps => 1,
+    fn from(accuracy: Accuracy) -> u8 {
+        match accuracy {
+            Accuracy::Unaugmented => 0,
+            Accuracy::Dgps => 1,
         }
     }
 }
@@ -120,70 +108,53 @@ pub struct RateOfTurn {
     pub raw: i8,
 }
 
-// The turn of a report.
-#[derive(Clone, Copy)]
-pub enum Turn {
-    Absent,
-    Of(RateOfTurn),
-}
-
-// The side to which a ship turns: absent where it does not.
+// The side to which a ship turns.
 #[derive(Clone, Copy)]
 pub enum Direction {
-    Absent,
     Port,
     Starboard,
 }
 
 impl RateOfTurn {
     // The turn.
-    pub fn parse(raw: i8) -> Turn
+    pub fn parse(raw: i8) -> Option<Self>
         ensures { result ≡ turn_of raw }
     {
         match raw {
-            -128 => Turn::Absent,
-            _ => Turn::Of(RateOfTurn { raw }),
+            -128 => None,
+            _ => Some(Self { raw }),
         }
     }
 
     // The rate in degrees a minute. A caller can build a turn of -128, which is no turn and tells none.
-    pub fn rate(self) -> Reading
+    #[tactic(auto, using(crate::proofs::Constants::turn_unit))]
+    pub fn rate(self) -> Option<f32>
         ensures { result ≡ rate_of self.raw }
     {
-        let raw = self.raw;
-        match raw {
-            -128 => Reading::Absent,
-            -127 => Reading::Absent,
-            127 => Reading::Absent,
-            _ => {
+        match self.raw {
+            -128 | -127 | 127 => None,
+            raw => {
                 let root = raw as f32 / 4.733;
-                Reading::Value(root * root)
+                Some(root * root)
             }
         }
     }
 
-    // The direction. -128 tells none here either.
-    pub fn direction(self) -> Direction
+    // The direction: none where the ship does not turn. -128 tells none here either.
+    pub fn direction(self) -> Option<Direction>
         ensures { result ≡ direction_of self.raw }
     {
-        let raw = self.raw;
-        if raw == -128 {
-            return Direction::Absent;
+        match self.raw {
+            -128 | 0 => None,
+            1..=127 => Some(Direction::Starboard),
+            _ => Some(Direction::Port),
         }
-        if raw < 0 {
-            return Direction::Port;
-        }
-        if raw > 0 {
-            return Direction::Starboard;
-        }
-        Direction::Absent
     }
 }
 
 // The manoeuvre indicator.
 #[derive(Clone, Copy)]
 pub enum ManeuverIndicator {
-    Absent,
     NoSpecialManeuver,
     SpecialManeuver,
     Unknown(u8),
@@ -191,26 +162,26 @@ pub enum ManeuverIndicator {
 
 impl ManeuverIndicator {
     // The manoeuvre indicator of its number.
-    pub fn parse(raw: u8) -> Self
+    pub fn parse(raw: u8) -> Option<Self>
         ensures { result ≡ manoeuvre_of raw }
     {
         match raw {
-            0 => Self::Absent,
-            1 => Self::NoSpecialManeuver,
-            2 => Self::SpecialManeuver,
-            _ => Self::Unknown(raw),
+            0 => None,
+            1 => Some(Self::NoSpecialManeuver),
+            2 => Some(Self::SpecialManeuver),
+            _ => Some(Self::Unknown(raw)),
         }
     }
 
-    // The number of a manoeuvre indicator.
-    pub fn number(self) -> u8
-        ensures { result ≡ manoeuvre_number self }
+    // The number of a manoeuvre indicator, absent or not. No `From`: an impl for an `Option` cannot stand in this crate.
+    pub fn number(sent: Option<Self>) -> u8
+        ensures { result ≡ manoeuvre_number sent }
     {
-        match self {
-            Self::Absent => 0,
-            Self::NoSpecialManeuver => 1,
-            Self::SpecialManeuver => 2,
-            Self::Unknown(raw) => raw,
+        match sent {
+            None => 0,
+            Some(Self::NoSpecialManeuver) => 1,
+            Some(Self::SpecialManeuver) => 2,
+            Some(Self::Unknown(raw)) => raw,
         }
     }
 }

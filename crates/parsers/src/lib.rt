@@ -1,4 +1,5 @@
 // Fields of bits over a slice of bytes and a bit place, highest bit first, and six-bit text (messages/parsers.rs).
+// Slice and place stay two parameters of each: the form that the scope fixes.
 #![tactic(auto)]
 
 pub mod little;
@@ -9,14 +10,7 @@ ghost use Rattle.parsers.specs.Field.{Field, the_taken_in, taken_of, signed_of, 
 ghost use Rattle.parsers.specs.Scan.{Led, Trailed};
 ghost use Rattle.parsers.specs.Text.{ascii_of, char_at, chars_of, text_with, text_of};
 
-// A field's bits as a number, or that the field does not lie within the slice.
-#[derive(Clone, Copy)]
-pub enum Taken {
-    Bits(u64),
-    Past,
-}
-
-// A text of at most 20 characters; the places past its length are 0.
+// A text of at most 20 characters; the places past its length are 0. A fixed array with its length beside it, since the library has no allocator.
 #[derive(Clone, Copy)]
 pub struct Text {
     pub bytes: [u8; 20],
@@ -36,10 +30,8 @@ fn window(bytes: &[u8], first: usize, count: usize) -> u64
     ensures { result ≡ val (bit_at 8 bytes.now) (first * 8) (count * 8) }
 {
     let mut acc: u64 = 0;
-    let mut k: usize = 0;
-    while k < count {
+    for k in 0..count {
         acc = (acc << 8) | (byte(bytes, first + k) as u64);
-        k += 1;
     }
     acc
 }
@@ -65,26 +57,26 @@ pub fn field(bytes: &[u8], at: usize, width: usize) -> u64
     cut_out(bytes, at / 8, at % 8, width)
 }
 
-// The same, told apart from a field that runs past the last byte.
-pub fn take_bits(bytes: &[u8], at: usize, width: usize) -> Taken
+// The same, and `None` where the field runs past the last byte.
+pub fn take_bits(bytes: &[u8], at: usize, width: usize) -> Option<u64>
     ensures { the_taken_in result ≡ taken_of bytes.now at width }
 {
     let first = at / 8;
     if width > 56 {
-        return Taken::Past;
+        return None;
     }
     let count = (at % 8 + width + 7) / 8;
     if bytes.len() < first {
-        return Taken::Past;
+        return None;
     }
     if bytes.len() - first < count {
-        return Taken::Past;
+        return None;
     }
-    Taken::Bits(field(bytes, at, width))
+    Some(field(bytes, at, width))
 }
 
 // The type of a message: its first six bits.
-pub fn message_type(bytes: &[u8]) -> Taken
+pub fn message_type(bytes: &[u8]) -> Option<u64>
     ensures { the_taken_in result ≡ taken_of bytes.now 0 6 }
 {
     take_bits(bytes, 0, 6)
@@ -151,14 +143,12 @@ fn leading(bytes: &[u8], at: usize, count: usize) -> usize
     requires { count ≤ 20 }
     ensures { Led bytes.now at count result }
 {
-    let mut i: usize = 0;
-    while i < count {
+    for i in 0..count {
         if ascii_at(bytes, at, i) != 32 {
             return i;
         }
-        i += 1;
     }
-    i
+    count
 }
 
 // How many of the `count` characters from character `start` on are left without those at the end that are c.
@@ -166,14 +156,12 @@ fn trailing(bytes: &[u8], at: usize, start: usize, count: usize, c: u8) -> usize
     requires { start + count ≤ 20 }
     ensures { Trailed c bytes.now (at + start * 6) count result }
 {
-    let mut n = count;
-    while n > 0 {
-        if ascii_at(bytes, at, start + n - 1) != c {
-            return n;
+    for i in (0..count).rev() {
+        if ascii_at(bytes, at, start + i) != c {
+            return i + 1;
         }
-        n -= 1;
     }
-    n
+    0
 }
 
 // The `count` characters from character `start` on.
@@ -182,10 +170,8 @@ fn spell(bytes: &[u8], at: usize, start: usize, count: usize) -> Text
     ensures { result ≡ text_with (chars_of bytes.now (at + start * 6) count) }
 {
     let mut out = [0u8; 20];
-    let mut i: usize = 0;
-    while i < count {
+    for i in 0..count {
         out[i] = ascii_at(bytes, at, start + i);
-        i += 1;
     }
     Text {
         bytes: out,

@@ -7,14 +7,12 @@ ghost use Rattle.navigation.specs.Navigation.{turn_of};
 ghost use Rattle.position_report.specs.Table.{position_table};
 ghost use Rattle.position_report.specs.Report.{status_of, status_number, rate_in, direction_in, report_with, report_in, answer_of};
 
-use navigation::{Accuracy, Direction, Heading, ManeuverIndicator, RateOfTurn, Reading, Turn};
-use parsers::Taken;
-use radio_status::{Radio, RadioStatus};
+use navigation::{Accuracy, Direction, ManeuverIndicator, RateOfTurn};
+use radio_status::{RadioStatus, Unread};
 
 // What a ship says that it is doing.
 #[derive(Clone, Copy)]
 pub enum NavigationStatus {
-    Absent,
     UnderWayUsingEngine,
     AtAnchor,
     NotUnderCommand,
@@ -34,50 +32,51 @@ pub enum NavigationStatus {
 
 impl NavigationStatus {
     // The status of a report. Four bits leave 15, which is absent, to the last arm, so Rust's `Unknown` has no place.
-    fn parse(bytes: &[u8]) -> Self
+    #[tactic(auto, using(crate::proofs::Laws::status_absent), unfolding(crate::specs::Report::status_of))]
+    fn parse(bytes: &[u8]) -> Option<Self>
         ensures { result ≡ status_of (number_at bytes.now position_table.status) }
     {
         match parsers::field(bytes, 38, 4) {
-            0 => Self::UnderWayUsingEngine,
-            1 => Self::AtAnchor,
-            2 => Self::NotUnderCommand,
-            3 => Self::RestrictedManouverability,
-            4 => Self::ConstrainedByDraught,
-            5 => Self::Moored,
-            6 => Self::Aground,
-            7 => Self::EngagedInFishing,
-            8 => Self::UnderWaySailing,
-            9 => Self::ReservedForHSC,
-            10 => Self::ReservedForWIG,
-            11 => Self::Reserved01,
-            12 => Self::Reserved02,
-            13 => Self::Reserved03,
-            14 => Self::AisSartIsActive,
-            _ => Self::Absent,
+            0 => Some(Self::UnderWayUsingEngine),
+            1 => Some(Self::AtAnchor),
+            2 => Some(Self::NotUnderCommand),
+            3 => Some(Self::RestrictedManouverability),
+            4 => Some(Self::ConstrainedByDraught),
+            5 => Some(Self::Moored),
+            6 => Some(Self::Aground),
+            7 => Some(Self::EngagedInFishing),
+            8 => Some(Self::UnderWaySailing),
+            9 => Some(Self::ReservedForHSC),
+            10 => Some(Self::ReservedForWIG),
+            11 => Some(Self::Reserved01),
+            12 => Some(Self::Reserved02),
+            13 => Some(Self::Reserved03),
+            14 => Some(Self::AisSartIsActive),
+            _ => None,
         }
     }
 
-    // The number of a status, as its four bits have it.
-    pub fn number(self) -> u8
-        ensures { result ≡ status_number self }
+    // The number of a status, absent or not, as its four bits have it. No `From`: an impl for an `Option` cannot stand in this crate.
+    pub fn number(sent: Option<Self>) -> u8
+        ensures { result ≡ status_number sent }
     {
-        match self {
-            Self::Absent => 15,
-            Self::UnderWayUsingEngine => 0,
-            Self::AtAnchor => 1,
-            Self::NotUnderCommand => 2,
-            Self::RestrictedManouverability => 3,
-            Self::ConstrainedByDraught => 4,
-            Self::Moored => 5,
-            Self::Aground => 6,
-            Self::EngagedInFishing => 7,
-            Self::UnderWaySailing => 8,
-            Self::ReservedForHSC => 9,
-            Self::ReservedForWIG => 10,
-            Self::Reserved01 => 11,
-            Self::Reserved02 => 12,
-            Self::Reserved03 => 13,
-            Self::AisSartIsActive => 14,
+        match sent {
+            None => 15,
+            Some(Self::UnderWayUsingEngine) => 0,
+            Some(Self::AtAnchor) => 1,
+            Some(Self::NotUnderCommand) => 2,
+            Some(Self::RestrictedManouverability) => 3,
+            Some(Self::ConstrainedByDraught) => 4,
+            Some(Self::Moored) => 5,
+            Some(Self::Aground) => 6,
+            Some(Self::EngagedInFishing) => 7,
+            Some(Self::UnderWaySailing) => 8,
+            Some(Self::ReservedForHSC) => 9,
+            Some(Self::ReservedForWIG) => 10,
+            Some(Self::Reserved01) => 11,
+            Some(Self::Reserved02) => 12,
+            Some(Self::Reserved03) => 13,
+            Some(Self::AisSartIsActive) => 14,
         }
     }
 }
@@ -89,59 +88,45 @@ pub struct PositionReport {
     pub message_type: u8,
     pub repeat_indicator: u8,
     pub mmsi: u32,
-    pub navigation_status: NavigationStatus,
-    pub rate_of_turn: Turn,
-    pub rate: Reading,
-    pub direction: Direction,
-    pub speed_over_ground: Reading,
+    pub navigation_status: Option<NavigationStatus>,
+    pub rate_of_turn: Option<RateOfTurn>,
+    pub rate: Option<f32>,
+    pub direction: Option<Direction>,
+    pub speed_over_ground: Option<f32>,
     pub speed_raw: u16,
     pub position_accuracy: Accuracy,
-    pub longitude: Reading,
+    pub longitude: Option<f32>,
     pub longitude_raw: i32,
-    pub latitude: Reading,
+    pub latitude: Option<f32>,
     pub latitude_raw: i32,
-    pub course_over_ground: Reading,
+    pub course_over_ground: Option<f32>,
     pub course_raw: u16,
-    pub true_heading: Heading,
+    pub true_heading: Option<u16>,
     pub timestamp: u8,
-    pub maneuver_indicator: ManeuverIndicator,
+    pub maneuver_indicator: Option<ManeuverIndicator>,
     pub raim: bool,
     pub radio_status: RadioStatus,
 }
 
-// A report; that the message ends inside a field of it; or that its type is another.
-#[derive(Clone, Copy)]
-pub enum Position {
-    Report(PositionReport),
-    Short,
-    OtherType(u8),
-}
-
 // The turn of a report.
-fn turn_in(bytes: &[u8]) -> Turn
+fn turn_in(bytes: &[u8]) -> Option<RateOfTurn>
     ensures { result ≡ turn_of (signed_at bytes.now position_table.turn) }
 {
     RateOfTurn::parse(parsers::signed_i32(bytes, 42, 8) as i8)
 }
 
 // The rate that a turn tells. An absent turn has none.
-fn rate_in(turn: Turn) -> Reading
+fn rate_in(turn: Option<RateOfTurn>) -> Option<f32>
     ensures { result ≡ rate_in turn }
 {
-    match turn {
-        Turn::Absent => Reading::Absent,
-        Turn::Of(sent) => sent.rate(),
-    }
+    turn?.rate()
 }
 
 // The direction that a turn tells. An absent turn has none.
-fn direction_in(turn: Turn) -> Direction
+fn direction_in(turn: Option<RateOfTurn>) -> Option<Direction>
     ensures { result ≡ direction_in turn }
 {
-    match turn {
-        Turn::Absent => Direction::Absent,
-        Turn::Of(sent) => sent.direction(),
-    }
+    turn?.direction()
 }
 
 // The report in these bytes, field by field, with its radio status.
@@ -179,16 +164,14 @@ fn parse_base(bytes: &[u8], status: RadioStatus) -> PositionReport
     }
 }
 
-// The report in these bytes, of any type and length. Its radio status is its last field: whoever has that has a report's type and length.
-pub fn parse(bytes: &[u8]) -> Position
+// The report in these bytes, of any type and length. Its radio status is its last field: whoever has that has a report's type and length,
+// and why there is none is why there is no report.
+pub fn parse(bytes: &[u8]) -> Result<PositionReport, Unread>
     ensures { report_in result ≡ answer_of position_table bytes.now }
 {
-    let Taken::Bits(number) = parsers::message_type(bytes) else {
-        return Position::Short;
+    let Some(number) = parsers::message_type(bytes) else {
+        return Err(Unread::Short);
     };
-    match radio_status::parse_radio(bytes, number as u8) {
-        Radio::Status(status) => return Position::Report(parse_base(bytes, status)),
-        Radio::Short => return Position::Short,
-        Radio::OtherType(other) => return Position::OtherType(other),
-    }
+    let status = radio_status::parse_radio(bytes, number as u8)?;
+    Ok(parse_base(bytes, status))
 }

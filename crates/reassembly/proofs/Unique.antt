@@ -1,21 +1,21 @@
 -- NOTHING IS LOST: what became of a line, and the record after it, are told by the join on paper. Assumes nothing.
 use mathlib.Core.Path.{◌≡◌, refl, sym, ap, ◌∙◌}
+use Rattle.std.specs.Prelude.{Result, Ok, Err}
 use Rattle.refusal.specs.Words.{Told}
+use Rattle.refusal.specs.declared.Refusal.{Refusal}
 use Rattle.refusal.proofs.Unique.{untold, untold_told}
 use Rattle.reassembly.specs.Record.{Join, part_in, join_in}
 use Rattle.reassembly.specs.declared.Part.{Part}
-use Rattle.reassembly.specs.declared.JoinOutcome.{JoinOutcome}
-use Rattle.reassembly.specs.declared.JoinOutcome.TheVariants.{Taken, Refused}
 use Rattle.reassembly.specs.declared.Joined.{Joined}
 
-abbrev outcome_by : Told Part → JoinOutcome
-outcome_by = untold Taken Refused
+abbrev outcome_by : Told Part → Result Part Refusal
+outcome_by = untold Ok Err
 
-outcome_back : (o : JoinOutcome) → outcome_by (part_in o) ≡ o
-outcome_back (Taken part) = refl
-outcome_back (Refused r) = untold_told {A = Part} Taken Refused r
+outcome_back : (o : Result Part Refusal) → outcome_by (part_in o) ≡ o
+outcome_back (Ok part) = refl
+outcome_back (Err r) = untold_told {A = Part} Ok Err r
 
-pub same_part : (o p : JoinOutcome) → part_in o ≡ part_in p → o ≡ p
+pub same_part : (o p : Result Part Refusal) → part_in o ≡ part_in p → o ≡ p
 same_part o p e = sym (outcome_back o) ∙ ap outcome_by e ∙ outcome_back p
 
 abbrev joined_by : Join → Joined

@@ -7,6 +7,7 @@ use native.Mathlib.Omega.{arith}
 use borrow.Author.Tests.{lt-ltb, le-ltb}
 use lib.ListN.{length, take, drop, length-append, length-drop}
 use lib.Seq.{length-take-le, take-take}
+use Rattle.std.specs.Prelude.{Result}
 use Rattle.refusal.specs.Words.{Told, taken, over}
 use Rattle.refusal.specs.Refusal.{told}
 use Rattle.refusal.specs.declared.Refusal.{Refusal}
@@ -16,7 +17,6 @@ use Rattle.sentence.specs.Line.{payload_of}
 use Rattle.sentence.specs.declared.AisSentence.{AisSentence}
 use Rattle.reassembly.specs.Record.{emptied_of, joined_bytes, added, part_in, join_in, join_of}
 use Rattle.reassembly.specs.declared.Record.{Record}
-use Rattle.reassembly.specs.declared.JoinOutcome.{JoinOutcome}
 use Rattle.reassembly.specs.declared.Part.{Part}
 use Rattle.reassembly.specs.declared.Fragment.{Fragment}
 use Rattle.reassembly.specs.declared.Joined.{Joined}
@@ -131,7 +131,7 @@ module _ (state : List ℕ) (w : 400 ≤ length state) where
           }
 
       -- the record joined where it lies
-      module _ (r : JoinOutcome) (state₁ : List ℕ) (f : Fragment) (g : f ≡ fragment_of s) (j : Joins (join_of (loaded_of state) f own) state r state₁) where
+      module _ (r : Result Part Refusal) (state₁ : List ℕ) (f : Fragment) (g : f ≡ fragment_of s) (j : Joins (join_of (loaded_of state) f own) state r state₁) where
         q : Joins (join_of (loaded_of state) (fragment_of s) own) state r state₁
         q = joins_as _ _ (ap (λ (x : Fragment). join_of (loaded_of state) x own) g) j
 

@@ -7,9 +7,8 @@ ghost use Rattle.ais.specs.Parts.{handing_of};
 ghost use Rattle.record_bytes.specs.Bytes.{record_in, loaded_of};
 ghost use Rattle.record_read.specs.Read.{Ends, Reads, read_in, read_of};
 
-use ais::Checked;
 use answer::Decode;
-use reassembly::{JoinOutcome, Part};
+use reassembly::Part;
 use sentence::AisSentence;
 
 // Reads one line: 0 where a message is complete, 100 where more is to come, else the refusal's number.
@@ -83,16 +82,12 @@ fn read_sentence(
         texts.new }
 {
     match record_bytes::join(state, ais::fragment_of(s), own) {
-        JoinOutcome::Refused(refusal) => return layout_told::tell_refused(refusal, numbers, texts),
-        JoinOutcome::Taken(part) => match part {
-            Part::Unfinished => return layout_told::tell_unfinished(
-                s, own, payload, numbers, texts,
-            ),
-            Part::Alone => return layout_told::tell_complete(
-                s, own, decode, payload, bits, numbers, texts,
-            ),
-            Part::Last => return read_last(s, decode, state, payload, bits, numbers, texts),
-        },
+        Err(refusal) => layout_told::tell_refused(refusal, numbers, texts),
+        Ok(Part::Unfinished) => layout_told::tell_unfinished(s, own, payload, numbers, texts),
+        Ok(Part::Alone) => layout_told::tell_complete(
+            s, own, decode, payload, bits, numbers, texts,
+        ),
+        Ok(Part::Last) => read_last(s, decode, state, payload, bits, numbers, texts),
     }
 }
 
@@ -112,11 +107,11 @@ fn read_line(
         texts.new }
 {
     match ais::check(line, payload.len(), bits.len()) {
-        Checked::Refused(refusal) => {
+        Err(refusal) => {
             record_bytes::keep(state);
             layout_told::tell_refused(refusal, numbers, texts)
         }
-        Checked::Sentence(s) => {
+        Ok(s) => {
             let start = s.payload_start;
             let end = s.payload_end;
             read_sentence(

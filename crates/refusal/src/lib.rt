@@ -23,31 +23,49 @@ pub enum Refusal {
     Request,
 }
 
-// Document 01's number of a refusal, for programs that print it.
-pub fn number(refusal: Refusal) -> u8
-    ensures { result ≡ (row_of refusal).number }
-{
-    match refusal {
-        Refusal::LineTooLong => 1,
-        Refusal::Line => 2,
-        Refusal::Checksum {
-            expected: _,
-            found: _,
-        } => 3,
-        Refusal::MessageNumber => 4,
-        Refusal::FragmentNumber => 5,
-        Refusal::PayloadTooLong => 6,
-        Refusal::Fill => 7,
-        Refusal::Armour { offset: _ } => 8,
-        Refusal::Short => 9,
-        Refusal::OtherType { message_type: _ } => 10,
-        Refusal::UnknownType { message_type: _ } => 11,
-        Refusal::Room => 12,
-        Refusal::Request => 13,
+impl Refusal {
+    // Document 01's number of a refusal, for programs that print it.
+    pub fn number(self) -> u8
+        ensures { result ≡ (row_of self).number }
+    {
+        match self {
+            Refusal::LineTooLong => 1,
+            Refusal::Line => 2,
+            Refusal::Checksum { .. } => 3,
+            Refusal::MessageNumber => 4,
+            Refusal::FragmentNumber => 5,
+            Refusal::PayloadTooLong => 6,
+            Refusal::Fill => 7,
+            Refusal::Armour { .. } => 8,
+            Refusal::Short => 9,
+            Refusal::OtherType { .. } => 10,
+            Refusal::UnknownType { .. } => 11,
+            Refusal::Room => 12,
+            Refusal::Request => 13,
+        }
+    }
+
+    // The values of a refusal, for programs that print them.
+    pub fn values(self) -> Values
+        ensures { Returned (row_of self).values result }
+    {
+        match self {
+            Refusal::Checksum { expected, found } => Values {
+                count: 2,
+                first: u64::from(expected),
+                second: u64::from(found),
+            },
+            Refusal::Armour { offset } => Values::one(offset as u64),
+            Refusal::OtherType { message_type } | Refusal::UnknownType { message_type } => {
+                Values::one(u64::from(message_type))
+            }
+            _ => Values::NONE,
+        }
     }
 }
 
 // What a refusal also returns: how many values there are, the first and the second, each 0 where there is none.
+// Not an Option for each: these are the three numbers that the layout for C holds.
 #[derive(Clone, Copy)]
 pub struct Values {
     pub count: u64,
@@ -55,28 +73,23 @@ pub struct Values {
     pub second: u64,
 }
 
-// The values of a refusal, for programs that print them.
-pub fn values_of(refusal: Refusal) -> Values
-    ensures { Returned (row_of refusal).values result }
-{
-    match refusal {
-        Refusal::LineTooLong => none(),
-        Refusal::Line => none(),
-        Refusal::Checksum { expected, found } => Values {
-            count: 2,
-            first: expected as u64,
-            second: found as u64,
-        },
-        Refusal::MessageNumber => none(),
-        Refusal::FragmentNumber => none(),
-        Refusal::PayloadTooLong => none(),
-        Refusal::Fill => none(),
-        Refusal::Armour { offset } => one(offset as u64),
-        Refusal::Short => none(),
-        Refusal::OtherType { message_type } => one(message_type as u64),
-        Refusal::UnknownType { message_type } => one(message_type as u64),
-        Refusal::Room => none(),
-        Refusal::Request => none(),
+impl Values {
+    // No value.
+    const NONE: Values = Values {
+        count: 0,
+        first: 0,
+        second: 0,
+    };
+
+    // A single value.
+    fn one(first: u64) -> Values
+        ensures { Returned (first ∷ []) result }
+    {
+        Values {
+            count: 1,
+            first,
+            second: 0,
+        }
     }
 }
 
@@ -86,31 +99,7 @@ pub fn count_of(number: u32) -> u64
 {
     match number {
         3 => 2,
-        8 => 1,
-        10 => 1,
-        11 => 1,
+        8 | 10 | 11 => 1,
         _ => 0,
-    }
-}
-
-// No value.
-fn none() -> Values
-    ensures { Returned [] result }
-{
-    Values {
-        count: 0,
-        first: 0,
-        second: 0,
-    }
-}
-
-// A single value.
-fn one(v: u64) -> Values
-    ensures { Returned (v ∷ []) result }
-{
-    Values {
-        count: 1,
-        first: v,
-        second: 0,
     }
 }

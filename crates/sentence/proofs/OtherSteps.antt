@@ -1,17 +1,12 @@
--- What a rule reads, as an answer of yes or no. Assumes nothing.
+-- The library's test of all bytes of a name is the definition's. Assumes nothing.
 use Prim.Native.Nat.{ℕ}
-use mathlib.Core.Path.{◌≡◌, refl}
-use mathlib.Core.Bool.{Bool, true, false, ◌&&◌}
-use Rattle.refusal.specs.Words.{pick}
-use Rattle.scan.specs.Rule.{Read, read, bad, on_read}
+use mathlib.Core.Path.{◌≡◌, refl, ap}
+use mathlib.Core.Bool.{Bool, ◌&&◌}
+use mathlib.Core.List.{List, [], ◌∷◌}
+use Rattle.std.specs.List.{list_all}
+use Rattle.sentence.specs.Other.{is_plain, all_plain}
 
--- a test, and a rule that it decides
-pub tested : (t : Bool) (at : ℕ) → t ≡ on_read {A = Unit {0}} (pick t (read tt at) (bad at)) (λ _ _. true) (λ _. false)
-tested true at = refl
-tested false at = refl
-
--- an answer after a rule is given where the rule is met
-pub answered : (r : Read (Unit {0})) (right : Bool)
-    → on_read (on_read r (λ _ next. read right next) bad) (λ b _. b) (λ _. false) ≡ (on_read r (λ _ _. true) (λ _. false) && right)
-answered (read u next) right = refl
-answered (bad place) right = refl
+pub same_all : (bs : List ℕ) → list_all is_plain bs ≡ all_plain bs
+unfolding all_plain
+same_all [] = refl
+same_all (b ∷ bs) = ap (λ (t : Bool). is_plain b && t) (same_all bs)

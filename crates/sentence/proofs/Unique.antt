@@ -5,10 +5,9 @@ use mathlib.Core.List.{List, []}
 use Prim.Native.Nat.{ℕ}
 use Rattle.refusal.specs.Words.{taken, refused}
 use Rattle.scan.specs.Rule.{Read, read, bad, on_read}
-use Rattle.sentence.specs.Line.{line, parsed, parsed_of}
+use Rattle.sentence.specs.Line.{line, parsed, parsed_of, Parsed}
 use Rattle.sentence.specs.Answers.{parsed_in, line_told}
 use Rattle.sentence.specs.declared.AisSentence.{AisSentence}
-use Rattle.sentence.specs.declared.Parsed.{Parsed}
 
 told-by : (result : Read AisSentence) → parsed_in (parsed result) ≡ on_read result (λ t _. taken t) (λ _. refused 2 [])
 told-by (read t next) = refl

@@ -3,9 +3,10 @@
 
 ghost use Rattle.std.specs.Prelude.{◌≡◌};
 ghost use Rattle.static_data_report.specs.Table.{table};
-ghost use Rattle.static_data_report.specs.StaticData.{no_texts, name_of, part_b_of, part_b_texts_of, report_of, no_report, Reports};
+ghost use Rattle.static_data_report.specs.StaticData.{no_texts, name_of, part_b_of, part_b_texts_of, report_of, Reports};
 
 use parsers::Text;
+use refusal::Refusal;
 
 // Part B's numbers. The ship type is the number as sent.
 #[derive(Clone, Copy)]
@@ -44,16 +45,10 @@ pub struct Texts {
     pub callsign: Text,
 }
 
-// The report, or that the message ends inside a needed field (refusal 9).
-#[derive(Clone, Copy)]
-pub enum Reported {
-    Report(StaticDataReport),
-    Short,
-}
-
+// The report, and its texts.
 #[derive(Clone, Copy)]
 pub struct StaticData {
-    pub report: Reported,
+    pub report: StaticDataReport,
     pub texts: Texts,
 }
 
@@ -74,15 +69,18 @@ pub fn no_texts() -> Texts
 }
 
 // The text of part A.
+#[tactic(auto, unfolding(crate::specs::StaticData::name_of))]
 fn name_of(bytes: &[u8]) -> Texts
     ensures { result ≡ name_of table bytes.now }
 {
-    let mut texts = no_texts();
-    texts.vessel_name = parsers::parse_6bit_ascii(bytes, 40, 120);
-    texts
+    Texts {
+        vessel_name: parsers::parse_6bit_ascii(bytes, 40, 120),
+        ..no_texts()
+    }
 }
 
 // The numbers of part B.
+#[tactic(auto, unfolding(crate::specs::StaticData::part_b_of))]
 fn part_b_of(bytes: &[u8]) -> PartB
     ensures { result ≡ part_b_of table bytes.now }
 {
@@ -98,17 +96,20 @@ fn part_b_of(bytes: &[u8]) -> PartB
 }
 
 // The texts of part B: the 24 bits of model and serial are shown both ways.
+#[tactic(auto, unfolding(crate::specs::StaticData::part_b_texts_of))]
 fn part_b_texts_of(bytes: &[u8]) -> Texts
     ensures { result ≡ part_b_texts_of table bytes.now }
 {
-    let mut texts = no_texts();
-    texts.vendor_id = parsers::parse_6bit_ascii(bytes, 48, 18);
-    texts.model_serial = parsers::parse_6bit_ascii(bytes, 66, 24);
-    texts.callsign = parsers::parse_6bit_ascii(bytes, 90, 42);
-    texts
+    Texts {
+        vendor_id: parsers::parse_6bit_ascii(bytes, 48, 18),
+        model_serial: parsers::parse_6bit_ascii(bytes, 66, 24),
+        callsign: parsers::parse_6bit_ascii(bytes, 90, 42),
+        ..no_texts()
+    }
 }
 
-// The answer with a part and its texts.
+// The report with a part, and its texts.
+#[tactic(auto, unfolding(crate::specs::StaticData::report_of))]
 fn report_of(bytes: &[u8], part: MessagePart, texts: Texts) -> StaticData
     ensures { result ≡ report_of table bytes.now part texts }
 {
@@ -118,47 +119,31 @@ fn report_of(bytes: &[u8], part: MessagePart, texts: Texts) -> StaticData
         mmsi: parsers::field(bytes, 8, 30) as u32,
         message_part: part,
     };
-    StaticData {
-        report: Reported::Report(report),
-        texts,
-    }
+    StaticData { report, texts }
 }
 
-// The answer of a message that ends inside a needed field.
-fn no_report() -> StaticData
-    ensures { result ≡ no_report }
-{
-    StaticData {
-        report: Reported::Short,
-        texts: no_texts(),
-    }
-}
-
-// Reads the unarmored bytes of a type 24 message. Part A needs 20 bytes, part B 21, an unknown part 5.
-pub fn parse(bytes: &[u8]) -> StaticData
+// Reads the unarmored bytes of a type 24 message. Part A needs 20 bytes, part B 21, an unknown part 5; one that ends before is refused with 9.
+pub fn parse(bytes: &[u8]) -> Result<StaticData, Refusal>
     ensures { Reports bytes.now result }
 {
     if bytes.len() < 5 {
-        return no_report();
+        return Err(Refusal::Short);
     }
     let part_number = parsers::field(bytes, 38, 2) as u8;
     match part_number {
         0 => {
             if bytes.len() < 20 {
-                return no_report();
+                return Err(Refusal::Short);
             }
-            report_of(bytes, MessagePart::PartA, name_of(bytes))
+            Ok(report_of(bytes, MessagePart::PartA, name_of(bytes)))
         }
         1 => {
             if bytes.len() < 21 {
-                return no_report();
+                return Err(Refusal::Short);
             }
-            report_of(
-                bytes,
-                MessagePart::PartB(part_b_of(bytes)),
-                part_b_texts_of(bytes),
-            )
+            let part = MessagePart::PartB(part_b_of(bytes));
+            Ok(report_of(bytes, part, part_b_texts_of(bytes)))
         }
-        _ => report_of(bytes, MessagePart::Unknown(part_number), no_texts()),
+        _ => Ok(report_of(bytes, MessagePart::Unknown(part_number), no_texts())),
     }
 }

@@ -1,19 +1,14 @@
--- What the block gives, from what the collector was called with; and what reading on leaves. Assumes nothing.
+-- What the block gives, from what the collector was called with. Assumes nothing.
 use Prim.Native.Nat.{ℕ, min}
-use native.Mathlib.Omega.{arith}
-use mathlib.Core.Path.{◌≡◌, refl, sym, ap, ◌∙◌}
+use mathlib.Core.Path.{◌≡◌, sym, ap, ◌∙◌}
 use mathlib.Core.Bool.{Bool}
 use mathlib.Core.List.{List}
 use lib.ListN.{length, take, length-take}
 use Rattle.lines.specs.Collect.{Collects, collect_of, next_of}
 use Rattle.text_out.proofs.Laws.{take_min}
-use Rattle.stream.specs.declared.Came.{Came}
-use Rattle.stream.specs.declared.Filled.{Filled}
-use Rattle.stream.specs.declared.Got.{Got}
 use Rattle.stream.specs.declared.Input.{Input}
 use Rattle.stream.specs.declared.Next.{Next}
 use Rattle.stream.specs.Next.{next_by, Given, taken_with, in_block}
-use Rattle.stream.specs.Moves.{Brings, Some, Fills}
 
 -- what a call of the collector gives, in the first n bytes of a block
 abbrev the_by_call : ℕ → Collects → Given
@@ -37,16 +32,3 @@ module _ (m : ℕ) (strip : Bool) (input : Input) (block buf : List ℕ) (n : �
       → taken_with (record { input = record { held = c.len; from = from; filled = n }; next = next }) c.line
       ≡ in_block m strip input block buf
   given e h p q = rw (p, q) (by_call e h)
-
--- a block of n bytes, with what was held
-abbrev pub filled_with : Input → ℕ → Came → Filled
-filled_with before n came = record { input = record { held = before.held; from = 0; filled = n }; came = came }
-
--- nothing was read
-pub stopped_fills : (before : Input) {r : Filled} (came : Came) (block : List ℕ) → r ≡ filled_with before 0 came → Some came 0 → Fills before r block
-stopped_fills before came block e s = rw e (record { held_kept = refl; is_at_start = refl; is_in_block = omega arith; some = s })
-
--- some bytes were read
-pub filled_fills : (before : Input) (n : ℕ) (block : List ℕ) {g : Got} → Brings g block → g ≡ Got.Bytes n → Fills before (filled_with before n Came.More) block
-filled_fills before n block b e =
-    let h = rw e at b in record { held_kept = refl; is_at_start = refl; is_in_block = h.1; some = h.0 }

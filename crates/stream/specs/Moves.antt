@@ -1,45 +1,38 @@
 -- What can be promised of a call that reads on or fails: of what is read, where a reader's bytes are known.
-use Rattle.std.specs.Prelude.{ℕ, ◌≤◌, ◌<◌, ◌≡◌, List, [], ◌++◌, length, take, Option, ⊤}
+use Rattle.std.specs.Prelude.{ℕ, ◌≤◌, ◌<◌, ◌≡◌, List, ◌++◌, length, take, Option, Result, Ok, Err, ⊤}
 use Rattle.std.specs.Io.KnownBytes.{Keeps, Consumes, IsAtEnd}
 use Rattle.text_out.specs.Text.{ascii}
 use Rattle.text_out.specs.Digits.{decimal_of}
-use Rattle.stream.specs.declared.Came.{Came}
-use Rattle.stream.specs.declared.Got.{Got}
+use Rattle.stream.specs.declared.Failure.{Failure}
 use Rattle.stream.specs.declared.Input.{Input}
-use Rattle.stream.specs.declared.Filled.{Filled}
 
--- what a read brings: some bytes of the block, or none
-abbrev pub Brings : Got → List ℕ → Type 0
-Brings (Got.Bytes n) block = (0 < n) × (n ≤ length block)
-Brings Got.Nothing block = Unit {0}
-Brings (Got.Failed e) block = Unit {0}
+-- what a read brings: bytes of the block, or none
+abbrev pub Brings : {E : Type 0} → Result ℕ E → List ℕ → Type 0
+Brings (Ok n) block = n ≤ length block
+Brings (Err e) block = ⊤
 
 -- what a read takes of a reader's bytes: those that stand first in the block; none at the end, or where it failed
-abbrev pub Takes : Got → Option (List ℕ) → Option (List ℕ) → List ℕ → Type 0
-Takes (Got.Bytes n) old new block = Consumes old new (take n block)
-Takes Got.Nothing old new block = Consumes old new [] × (0 < length block → IsAtEnd new)
-Takes (Got.Failed e) old new block = Keeps old new
+abbrev pub Takes : {E : Type 0} → Result ℕ E → Option (List ℕ) → Option (List ℕ) → List ℕ → Type 0
+Takes (Ok n) old new block = Consumes old new (take n block) × (n ≡ 0 → 0 < length block → IsAtEnd new)
+Takes (Err e) old new block = Keeps old new
 
 -- what holds of the output after reading on, but where it could not be written
-abbrev pub Told : Came → Type 0 → Type 0
-Told Came.More P = P
-Told Came.End P = P
-Told (Came.Unread e) P = P
-Told (Came.Unwritten e) P = ⊤
+abbrev pub Told : Result ℕ Failure → Type 0 → Type 0
+Told (Ok n) P = P
+Told (Err (Failure.Unread e)) P = P
+Told (Err (Failure.Unwritten e)) P = ⊤
 
--- how many bytes a block has after reading on: some where more came, else none
-abbrev pub Some : Came → ℕ → Type 0
-Some Came.More n = 0 < n
-Some Came.End n = n ≡ 0
-Some (Came.Unread e) n = n ≡ 0
-Some (Came.Unwritten e) n = n ≡ 0
+-- how many bytes a block has after reading on: as many as were read, and none where that failed
+abbrev pub Some : Result ℕ Failure → ℕ → Type 0
+Some (Ok n) filled = filled ≡ n
+Some (Err e) filled = filled ≡ 0
 
 -- reading on: what is held is kept, reading goes on at the block's start, and what was filled lies in the block
-pub record Fills (before : Input) (r : Filled) (block : List ℕ) : Type 0 where
-  pub held_kept : r.input.held ≡ before.held
-  pub is_at_start : r.input.from ≡ 0
-  pub is_in_block : r.input.filled ≤ length block
-  pub some : Some r.came r.input.filled
+pub record Fills (before after : Input) (came : Result ℕ Failure) (block : List ℕ) : Type 0 where
+  pub held_kept : after.held ≡ before.held
+  pub is_at_start : after.from ≡ 0
+  pub is_in_block : after.filled ≤ length block
+  pub some : Some came after.filled
 
 -- what is said of a call that failed, before the system's reason
 unfoldable pub failure_text : List ℕ → ℕ → List ℕ → List ℕ → List ℕ

@@ -5,11 +5,11 @@
 
 mod pause;
 
-ghost use Rattle.std.specs.Prelude.{◌≡◌, ◌<◌, leb, length, take, OnOk};
+ghost use Rattle.std.specs.Prelude.{◌≡◌, ◌<◌, leb, length, take, OnOk, Ok};
 ghost use Rattle.std.specs.Io.{WritesAtMost};
 ghost use Rattle.std.specs.Io.KnownBytes.{Appends, Consumes, IsAtEnd, WriteAppends};
 ghost use Rattle.lines.specs.Collect.{next_of};
-ghost use Rattle.text_out.specs.Text.{text, put};
+ghost use Rattle.text_out.specs.Output.{Puts};
 ghost use Rattle.stream.specs.Next.{at_start, next_by, taken_with, in_block, at_end, comes_of};
 ghost use Rattle.stream.specs.Moves.{Fills, Brings, Takes, Told, failure_text};
 
@@ -17,6 +17,7 @@ use lines::{Collector, Event};
 use std::fmt::InlineText;
 use std::io::{Error, ErrorKind, Read, Result, Write};
 use std::rt::Clock;
+use text_out::Output;
 
 // How far the input was taken: how many bytes are held of a line that is not yet ended, the place in the block to go on from, and how many bytes the
 // block has.
@@ -44,28 +45,11 @@ pub struct Taken {
     pub next: Next,
 }
 
-// What reading on brought: more of the input, its end, or a call that failed, to read or to write, with the system's reason.
+// Why reading on failed: a call to read, or to write, with the system's reason.
 #[derive(Clone, Copy)]
-pub enum Came {
-    More,
-    End,
+pub enum Failure {
     Unread(Error),
     Unwritten(Error),
-}
-
-// What a call that reads on gives back.
-#[derive(Clone, Copy)]
-pub struct Filled {
-    pub input: Input,
-    pub came: Came,
-}
-
-// What a read brought: bytes of the block, from its start on; none, since the input has ended; or it failed, with the system's reason.
-#[derive(Clone, Copy)]
-enum Got {
-    Bytes(usize),
-    Nothing,
-    Failed(Error),
 }
 
 // Before anything is read.
@@ -104,14 +88,13 @@ fn next_line(input: Input, most: u16, strip: bool, block: &[u8], line: &mut [u8]
     let n = text_out::up_to(input.filled, block);
     let held = Collector { len: input.held };
     let c = lines::collect_to(held, most, strip, &block[..n], input.from, line);
-    let event = c.event;
     Taken {
         input: Input {
             held: c.state.len,
-            from: next_from(event, n),
+            from: next_from(c.event, n),
             filled: n,
         },
-        next: next_by(event),
+        next: next_by(c.event),
     }
 }
 
@@ -143,83 +126,52 @@ fn next_from(event: Event, all: usize) -> usize
     ensures { result ≡ next_of event all }
 {
     match event {
-        Event::Line(_, next) => next,
-        Event::TooLong(next) => next,
-        Event::Held => all,
-        Event::Room => all,
+        Event::Line(_, next) | Event::TooLong(next) => next,
+        Event::Held | Event::Room => all,
     }
 }
 
-// Goes on where no line ends in what is left of the block. The first `used` bytes of the output buffer are written before anything is waited for, so
-// that whoever looks sees all that was told; then the block is read anew from `from`.
+// Goes on where no line ends in what is left of the block, and answers how many bytes were read: 0 at the end of the input. The first `used` bytes of the
+// output buffer are written before anything is waited for, so that whoever looks sees all that was told; then the block is read anew from `from`. What is
+// held is kept.
 pub fn read_on<C: Clock, R: Read, W: Write>(
     clock: &C,
-    input: Input,
+    input: &mut Input,
     from: &mut R,
     block: &mut [u8],
     to: &mut W,
     out: &[u8],
     used: usize,
-) -> Filled
-    ensures fills { Fills input result block.new }
-    ensures read { Consumes (R.remaining from.old) (R.remaining from.new) (take result.input.filled block.new) }
-    ensures end { result.came ≡ Came.End → 0 < length block.new → IsAtEnd (R.remaining from.new) }
-    ensures written { Told result.came (Appends (W.contents to.old) (W.contents to.new) (take used out.now)) }
+) -> std::result::Result<usize, Failure>
+    ensures fills { Fills input.old input.new result block.new }
+    ensures read { Consumes (R.remaining from.old) (R.remaining from.new) (take input.new.filled block.new) }
+    ensures end { result ≡ Ok 0 → 0 < length block.new → IsAtEnd (R.remaining from.new) }
+    ensures written { Told result (Appends (W.contents to.old) (W.contents to.new) (take used out.now)) }
 {
-    if let Err(error) = write_out(clock, to, out, used) {
-        return stopped(input, Came::Unwritten(error));
-    }
-    match read_some(clock, from, block) {
-        Got::Bytes(n) => Filled {
-            input: Input {
-                held: input.held,
-                from: 0,
-                filled: n,
-            },
-            came: Came::More,
-        },
-        Got::Nothing => stopped(input, Came::End),
-        Got::Failed(error) => stopped(input, Came::Unread(error)),
-    }
+    input.from = 0;
+    input.filled = 0;
+    write_out(clock, to, out, used).map_err(Failure::Unwritten)?;
+    let n = read_some(clock, from, block).map_err(Failure::Unread)?;
+    input.filled = n;
+    Ok(n)
 }
 
-// Nothing was read; what is held is kept.
-fn stopped(input: Input, came: Came) -> Filled
-    ensures { result ≡ record { input = record { held = input.held; from = 0; filled = 0 }; came = came } }
-{
-    Filled {
-        input: Input {
-            held: input.held,
-            from: 0,
-            filled: 0,
-        },
-        came: came,
-    }
-}
-
-// Reads once, and again where a call was interrupted or would have had to wait.
-fn read_some<C: Clock, R: Read>(clock: &C, from: &mut R, block: &mut [u8]) -> Got
+// Reads once, and again where a call was interrupted or would have had to wait. 0 bytes are the end of the input.
+fn read_some<C: Clock, R: Read>(clock: &C, from: &mut R, block: &mut [u8]) -> Result<usize>
     ensures brings { Brings result block.new }
     ensures bytes { Takes result (R.remaining from.old) (R.remaining from.new) block.new }
 {
-    let mut tries = u64::MAX;
-    while tries > 0 {
+    for _ in 0..u64::MAX {
         match from.read(block) {
-            Ok(n) => {
-                if n > 0 {
-                    return Got::Bytes(n);
-                }
-                return Got::Nothing;
-            }
+            Ok(n) => return Ok(n),
             Err(error) => {
                 if !is_for_again(clock, error) {
-                    return Got::Failed(error);
+                    return Err(error);
                 }
             }
         }
-        tries -= 1;
     }
-    Got::Failed(Error::from(ErrorKind::TimedOut))
+    Err(Error::from(ErrorKind::TimedOut))
 }
 
 // Whether the call that just failed is to be tried again: a signal interrupted it, or it would have had to wait, and a while has passed.
@@ -253,12 +205,10 @@ fn write_all<C: Clock, W: Write>(clock: &C, to: &mut W, bytes: &[u8]) -> Result<
     ensures { OnOk result (Appends (W.contents to.old) (W.contents to.new) bytes.now) }
 {
     let mut done = 0;
-    let mut tries = u64::MAX;
-    while done < bytes.len() {
-        if tries == 0 {
-            return Err(Error::from(ErrorKind::TimedOut));
+    for _ in 0..u64::MAX {
+        if done == bytes.len() {
+            return Ok(());
         }
-        tries -= 1;
         match write_some(to, &bytes[done..]) {
             Ok(0) => return Err(Error::from(ErrorKind::WriteZero)),
             Ok(put) => done += put,
@@ -269,7 +219,7 @@ fn write_all<C: Clock, W: Write>(clock: &C, to: &mut W, bytes: &[u8]) -> Result<
             }
         }
     }
-    Ok(())
+    Err(Error::from(ErrorKind::TimedOut))
 }
 
 // Writes once, and answers how many bytes were taken, or why the call failed.
@@ -280,46 +230,40 @@ fn write_some<W: Write>(to: &mut W, bytes: &[u8]) -> Result<usize>
     to.write(bytes)
 }
 
+// Who tells what failed: the program, by its name, and after which line of its input.
+#[derive(Clone, Copy)]
+pub struct Teller<'a> {
+    pub rt: &'a HostRuntime,
+    pub program: &'a [u8],
+    pub number: u64,
+}
+
 // Says on standard error that a call failed: the program, after which line of the input, what it did and with what, and the system's reason.
-pub fn say_failure(
-    rt: &HostRuntime,
-    program: &[u8],
-    number: u64,
-    doing: &[u8],
-    name: &[u8],
-    error: Error,
-) {
-    let mut words = [0u8; 4096];
-    let n = put_failure(&mut words, 0, program, number, doing, name);
-    fail(rt, &words, n, error);
+pub fn say_failure(teller: &Teller, doing: &[u8], name: &[u8], error: Error) {
+    let mut buffer = [0u8; 4096];
+    let mut words = Output::new(&mut buffer, 0);
+    put_failure(&mut words, teller.program, teller.number, doing, name);
+    fail(teller.rt, &words, error);
 }
 
 // The words before the system's reason.
-pub fn put_failure(
-    out: &mut [u8],
-    at: usize,
-    program: &[u8],
-    number: u64,
-    doing: &[u8],
-    name: &[u8],
-) -> usize
-    ensures { text result out.new
-        ≡ put (text at out.old) (failure_text program.now number doing.now name.now) }
+pub fn put_failure(out: &mut Output, program: &[u8], number: u64, doing: &[u8], name: &[u8])
+    ensures { Puts out.old out.new (failure_text program.now number doing.now name.now) }
 {
-    let a = text_out::put_bytes(out, at, program);
-    let b = text_out::put_bytes(out, a, b": after input line ");
-    let c = text_out::put_decimal(out, b, number);
-    let d = text_out::put_bytes(out, c, b", ");
-    let e = text_out::put_bytes(out, d, doing);
-    let f = text_out::put_byte(out, e, b' ');
-    text_out::put_bytes(out, f, name)
+    out.put_bytes(program);
+    out.put_bytes(b": after input line ");
+    out.put_decimal(number);
+    out.put_bytes(b", ");
+    out.put_bytes(doing);
+    out.put_byte(b' ');
+    out.put_bytes(name);
 }
 
-// Says on standard error what failed, the first `used` bytes of `words`, then a colon and the system's reason.
-pub fn fail(rt: &HostRuntime, words: &[u8], used: usize, error: Error) {
+// Says on standard error what failed, the words, then a colon and the system's reason.
+pub fn fail(rt: &HostRuntime, words: &Output, error: Error) {
     let told = InlineText::<256>::of(error);
     let reason = reason_of(told.as_str()).as_bytes();
-    say(rt, words, used);
+    say(rt, words.buffer, words.at);
     say(rt, b": ", 2);
     say(rt, reason, reason.len());
     say(rt, b"\n", 1);

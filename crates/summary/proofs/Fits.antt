@@ -9,8 +9,8 @@ use mathlib.Core.List.{List, [], ◌++◌}
 use borrow.Author.Tests.{leb-true}
 use lib.Dec.{eqb}
 use lib.ListN.{length, length-append}
+use Rattle.std.specs.Prelude.{Option, Some, None}
 use Rattle.refusal.specs.Words.{pick}
-use Rattle.sentence.specs.declared.Number.{Number}
 use Rattle.reassembly.specs.declared.Record.{Record}
 use Rattle.text_out.specs.Digits.{decimal_in, decimal_of}
 use Rattle.text_out.specs.Text.{text, put, ascii}
@@ -27,9 +27,9 @@ unfolding summary_of decimal_in
 summary_most tally = le_trans (printed-most 0 tally [] (omega arith) summary_table) (leb-true (bound_of 0 summary_table) 2048 refl)
 
 -- ---- a message that is unfinished
-number-most : (n : Number) → length (number_text n) ≤ 29
-number-most Number.Absent = omega arith
-number-most (Number.Of n) = omega (arith, length-append (ascii "number ") (decimal_of n ++ ascii ", "), length-append (decimal_of n) (ascii ", "), decimal-most n)
+number-most : (n : Option ℕ) → length (number_text n) ≤ 29
+number-most None = omega arith
+number-most (Some n) = omega (arith, length-append (ascii "number ") (decimal_of n ++ ascii ", "), length-append (decimal_of n) (ascii ", "), decimal-most n)
 
 -- what the record still holds is told in few bytes
 unfinished-most : (r : Record) → length (unfinished_text r) ≤ 256

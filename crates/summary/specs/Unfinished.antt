@@ -1,19 +1,18 @@
 -- What is said at the end of the inputs, for whoever started the program: a message that is unfinished, and the counts where they are asked.
-use Rattle.std.specs.Prelude.{ℕ, Bool, List, [], ◌++◌, eqb}
+use Rattle.std.specs.Prelude.{ℕ, Bool, List, [], ◌++◌, eqb, Option, Some, None}
 use Rattle.refusal.specs.Words.{pick}
-use Rattle.sentence.specs.declared.Number.{Number}
 use Rattle.reassembly.specs.declared.Record.{Record}
 use Rattle.text_out.specs.Text.{ascii}
 use Rattle.text_out.specs.Digits.{decimal_of}
 use Rattle.summary.specs.Summary.{summary_of}
 
 -- a message number, where there is one
-abbrev pub number_text : Number → List ℕ
-number_text Number.Absent = []
-number_text (Number.Of n) = ascii "number " ++ decimal_of n ++ ascii ", "
+abbrev pub number_text : Option ℕ → List ℕ
+number_text None = []
+number_text (Some n) = ascii "number " ++ decimal_of n ++ ascii ", "
 
 -- what the record still holds: its message number, its fragment number, which counts the lines joined, and its length
-unfoldable pub held_text : Number → ℕ → ℕ → List ℕ
+unfoldable pub held_text : Option ℕ → ℕ → ℕ → List ℕ
 held_text id number len =
     pick (eqb len 0) []
     (ascii "unfinished message: "

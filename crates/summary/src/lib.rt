@@ -3,47 +3,118 @@
 #![tactic(auto)]
 
 ghost use Rattle.std.specs.Prelude.{◌≡◌};
-ghost use Rattle.text_out.specs.Text.{text, put};
+ghost use Rattle.text_out.specs.Output.{Puts};
 ghost use Rattle.summary.specs.Tally.{another_kind, the_one_more, bumped, counted_of};
 ghost use Rattle.record_bytes.specs.Bytes.{loaded_of};
 ghost use Rattle.summary.specs.Summary.{summary_of};
 ghost use Rattle.summary.specs.Unfinished.{number_text, held_text, unfinished_text, end_text};
 
-use sentence::Number;
+use face_rows::Row::{Put, Words};
+use face_rows::Test::{Always, Least};
+use face_rows::{Row, Value};
+use text_out::Output;
 
-// The words of the table.
-const WORDS: [u8; 663] =
-    *b"\nrefused 4, message number differs from the one before: \nrefused 13, request outside the writer's limits: \
-      \nrefused 7, fill over 5, or fill with empty data: \nrefused 5, fragment number is not the next one: \nrefused 9, message ends inside a needed field: \
-      \n  of these NMEA sentences of another kind: \nrefused 10, message type is not decoded: \nrefused 12, a lent output is too small: \
-      \nrefused 2, line breaks the line rules: \nrefused 11, message type is unknown: \nrefused 8, byte cannot be unarmored: \
-      \nrefused 6, payload over 384 bytes: \nrefused 1, line over 1024 bytes: \nrefused 3, checksum differs: \nunfinished: \ntype 15: \ntype 24: \ntype 1: \
-      \ntype 2: \ntype 3: lines: ";
+// Places of the counts, by their names in specs/Tally and specs/Summary; a refusal's is its number.
+const ALL_LINES: usize = 0;
 
-// A row in hex: S_T_VV_PP_K_QQ_RR_FFF_LL, as crate `face_rows` reads it.
-const SUMMARY: [u64; 22] = [
-    0x0_0_00_00_1_00_00_290_07,
-    0x0_3_01_81_1_81_00_275_09,
-    0x0_3_01_82_1_82_00_27e_09,
-    0x0_3_01_83_1_83_00_287_09,
-    0x0_3_01_8f_1_8f_00_261_0a,
-    0x0_3_01_98_1_98_00_26b_0a,
-    0x0_3_01_64_1_64_00_254_0d,
-    0x0_3_01_01_1_01_00_214_22,
-    0x0_3_01_02_1_02_00_17c_28,
-    0x0_3_01_65_1_65_00_0fd_2c,
-    0x0_3_01_03_1_03_00_236_1e,
-    0x0_3_01_04_1_04_00_000_38,
-    0x0_3_01_05_1_05_00_09c_31,
-    0x0_3_01_06_1_06_00_1f0_24,
-    0x0_3_01_07_1_07_00_06a_32,
-    0x0_3_01_08_1_08_00_1ca_26,
-    0x0_3_01_09_1_09_00_0cd_30,
-    0x0_3_01_0a_1_0a_00_129_2a,
-    0x0_3_01_0b_1_0b_00_1a4_26,
-    0x0_3_01_0c_1_0c_00_153_29,
-    0x0_3_01_0d_1_0d_00_038_32,
-    0x0_0_00_00_0_00_00_000_01,
+const UNFINISHED: usize = 100;
+
+const ANOTHER_KIND: usize = 101;
+
+const TYPE_1: usize = 129;
+
+const TYPE_2: usize = 130;
+
+const TYPE_3: usize = 131;
+
+const TYPE_15: usize = 143;
+
+const TYPE_24: usize = 152;
+
+// The counts as text, row by row.
+const SUMMARY: &[Row] = &[
+    Put(Always, b"lines: ", Value::Number(ALL_LINES)),
+    Put(Least(TYPE_1, 1), b"\ntype 1: ", Value::Number(TYPE_1)),
+    Put(Least(TYPE_2, 1), b"\ntype 2: ", Value::Number(TYPE_2)),
+    Put(Least(TYPE_3, 1), b"\ntype 3: ", Value::Number(TYPE_3)),
+    Put(Least(TYPE_15, 1), b"\ntype 15: ", Value::Number(TYPE_15)),
+    Put(Least(TYPE_24, 1), b"\ntype 24: ", Value::Number(TYPE_24)),
+    Put(
+        Least(UNFINISHED, 1),
+        b"\nunfinished: ",
+        Value::Number(UNFINISHED),
+    ),
+    Put(
+        Least(1, 1),
+        b"\nrefused 1, line over 1024 bytes: ",
+        Value::Number(1),
+    ),
+    Put(
+        Least(2, 1),
+        b"\nrefused 2, line breaks the line rules: ",
+        Value::Number(2),
+    ),
+    Put(
+        Least(ANOTHER_KIND, 1),
+        b"\n  of these NMEA sentences of another kind: ",
+        Value::Number(ANOTHER_KIND),
+    ),
+    Put(
+        Least(3, 1),
+        b"\nrefused 3, checksum differs: ",
+        Value::Number(3),
+    ),
+    Put(
+        Least(4, 1),
+        b"\nrefused 4, message number differs from the one before: ",
+        Value::Number(4),
+    ),
+    Put(
+        Least(5, 1),
+        b"\nrefused 5, fragment number is not the next one: ",
+        Value::Number(5),
+    ),
+    Put(
+        Least(6, 1),
+        b"\nrefused 6, payload over 384 bytes: ",
+        Value::Number(6),
+    ),
+    Put(
+        Least(7, 1),
+        b"\nrefused 7, fill over 5, or fill with empty data: ",
+        Value::Number(7),
+    ),
+    Put(
+        Least(8, 1),
+        b"\nrefused 8, byte cannot be unarmored: ",
+        Value::Number(8),
+    ),
+    Put(
+        Least(9, 1),
+        b"\nrefused 9, message ends inside a needed field: ",
+        Value::Number(9),
+    ),
+    Put(
+        Least(10, 1),
+        b"\nrefused 10, message type is not decoded: ",
+        Value::Number(10),
+    ),
+    Put(
+        Least(11, 1),
+        b"\nrefused 11, message type is unknown: ",
+        Value::Number(11),
+    ),
+    Put(
+        Least(12, 1),
+        b"\nrefused 12, a lent output is too small: ",
+        Value::Number(12),
+    ),
+    Put(
+        Least(13, 1),
+        b"\nrefused 13, request outside the writer's limits: ",
+        Value::Number(13),
+    ),
+    Words(Always, b"\n"),
 ];
 
 // Counts a line by the layout's code, and a complete message by its type.
@@ -86,64 +157,62 @@ fn one_more(n: u64) -> u64
 }
 
 // The counts as text.
-fn put_summary(out: &mut [u8], at: usize, tally: &[u64]) -> usize
-    ensures { text result out.new ≡ put (text at out.old) (summary_of tally.now) }
+fn put_summary(out: &mut Output, tally: &[u64])
+    ensures { Puts out.old out.new (summary_of tally.now) }
 {
-    face_rows::put_rows(out, at, &SUMMARY, &WORDS, tally, b"")
+    face_rows::put_rows(out, SUMMARY, tally, b"");
 }
 
 // All that is said at the end: a message that is unfinished, and the counts where they are asked.
-pub fn put_end(out: &mut [u8], at: usize, state: &[u8], counts: bool, tally: &[u64]) -> usize
-    ensures { text result out.new
-        ≡ put (text at out.old) (end_text (loaded_of state.now) counts tally.now) }
+pub fn put_end(out: &mut Output, state: &[u8], counts: bool, tally: &[u64])
+    ensures { Puts out.old out.new (end_text (loaded_of state.now) counts tally.now) }
 {
-    let a = put_unfinished(out, at, state);
+    put_unfinished(out, state);
     if counts {
-        return put_summary(out, a, tally);
+        put_summary(out, tally);
     }
-    a
 }
 
 // What the record still holds of a message, and nothing where it holds none.
-fn put_unfinished(out: &mut [u8], at: usize, state: &[u8]) -> usize
-    ensures { text result out.new ≡ put (text at out.old) (unfinished_text (loaded_of state.now)) }
+fn put_unfinished(out: &mut Output, state: &[u8])
+    ensures { Puts out.old out.new (unfinished_text (loaded_of state.now)) }
 {
     let held = record_bytes::load(state);
     let id = held.message_id;
-    put_held(out, at, id, held.fragment_number, held.len)
+    put_held(out, id, held.fragment_number, held.len);
 }
 
 // What a record holds, by its message number, its fragment number and its length.
-fn put_held(out: &mut [u8], at: usize, id: Number, number: u8, len: usize) -> usize
-    ensures { text result out.new ≡ put (text at out.old) (held_text id number len) }
+fn put_held(out: &mut Output, id: Option<u8>, number: u8, len: usize)
+    ensures { Puts out.old out.new (held_text id number len) }
 {
     if len == 0 {
-        return at;
+        return;
     }
-    let a = text_out::put_bytes(out, at, b"unfinished message: ");
-    let b = put_id(out, a, id);
-    let c = text_out::put_bytes(out, b, b"lines so far: ");
-    let d = text_out::put_decimal(out, c, number as u64);
-    let e = text_out::put_bytes(out, d, b", characters: ");
-    let f = text_out::put_decimal(out, e, len as u64);
-    text_out::put_byte(out, f, 10)
+    out.put_bytes(b"unfinished message: ");
+    put_id(out, id);
+    out.put_bytes(b"lines so far: ");
+    out.put_decimal(number as u64);
+    out.put_bytes(b", characters: ");
+    out.put_decimal(len as u64);
+    out.put_byte(10);
 }
 
 // A message number, where there is one.
-fn put_id(out: &mut [u8], at: usize, id: Number) -> usize
-    ensures { text result out.new ≡ put (text at out.old) (number_text id) }
+fn put_id(out: &mut Output, id: Option<u8>)
+    ensures { Puts out.old out.new (number_text id) }
 {
     match id {
-        Number::Absent => at,
-        Number::Of(n) => put_number(out, at, n as u64),
+        None => {}
+        Some(n) => put_number(out, n as u64),
     }
 }
 
 // A number after its name.
-fn put_number(out: &mut [u8], at: usize, n: u64) -> usize
-    ensures { text result out.new ≡ put (text at out.old) (number_text (Number.Of n)) }
+fn put_number(out: &mut Output, n: u64)
+    ensures { Puts out.old out.new (number_text (Some n)) }
 {
-    let a = text_out::put_bytes(out, at, b"number ");
-    let b = text_out::put_decimal(out, a, n);
-    text_out::put_bytes(out, b, b", ")
+    out.put_bytes(b"number ");
+    out.put_decimal(n);
+    out.put_bytes(b", ");
 }

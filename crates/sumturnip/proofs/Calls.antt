@@ -1,11 +1,15 @@
 -- The ways out of the exported calls. Assumes nothing.
-use mathlib.Core.Path.{◌≡◌}
+use mathlib.Core.Path.{◌≡◌, refl}
 use mathlib.Core.List.{List}
 use Prim.Native.Nat.{ℕ, ◌≤◌, ◌<◌}
 use borrow.Author.Tests.{lt-ltb, le-ltb}
 use lib.ListN.{length, set}
 use lib.Seq.{set_split}
+use Rattle.std.specs.Prelude.{Result, Ok, Err}
 use Rattle.refusal.specs.Words.{Told, number_in, left}
+use Rattle.refusal.specs.declared.Refusal.{Refusal}
+use Rattle.armour.specs.Unarmor.{unarmored_in}
+use Rattle.writer.specs.Writer.{written_in}
 use Rattle.reassembly.specs.Record.{fresh_record}
 use Rattle.reassembly.specs.declared.Record.{Record}
 use Rattle.record_bytes.specs.Bytes.{stored_of}
@@ -18,6 +22,11 @@ fresh-short state h = rw (lt-ltb (length state) 400 h)
 pub fresh_made : (state : List ℕ) {after : List ℕ} {r : Record} → 400 ≤ length state → r ≡ fresh_record → after ≡ stored_of r state
     → freshened_in 0 after ≡ freshened_of state
 fresh_made state h e f = rw (f, e, le-ltb (length state) 400 h)
+
+-- unarmoring and the writer both answer with a count, and are told alike
+pub counted-alike : (r : Result ℕ Refusal) → unarmored_in r ≡ written_in r
+counted-alike (Ok n) = refl
+counted-alike (Err refusal) = refl
 
 module _ (t : Told ℕ) (s out numbers : List ℕ) where
   pub count-short : length numbers < 1 → fills_in 12 out numbers ≡ fills_by t s out numbers

@@ -1,11 +1,10 @@
 -- The request that numbers tell: those by which an answer tells talkers, report types, channels and message numbers (layout_answer/specs/Sentence.antt).
 -- Any other number tells something that the writer refuses: "Anything else is refusal 13" (document 01, 'The writer').
-use Rattle.std.specs.Prelude.{ℕ, ◌&&◌, List, [], ◌∷◌, eqb, leb, get_or}
+use Rattle.std.specs.Prelude.{ℕ, ◌&&◌, List, [], ◌∷◌, eqb, leb, get_or, Option, Some, None}
 use Rattle.refusal.specs.Words.{pick}
 use Rattle.sentence.specs.declared.TalkerId.{TalkerId}
 use Rattle.sentence.specs.declared.TalkerId.TheVariants.{Unknown, AB, AD, AI, AN, AR, AS, AT, AX, BS, SA}
 use Rattle.sentence.specs.declared.AisReportType.{AisReportType}
-use Rattle.sentence.specs.declared.Channel.{Channel}
 use Rattle.writer.specs.declared.Request.{Request}
 
 -- the talkers and the report types, each at the place of its number
@@ -26,8 +25,8 @@ abbrev pub byte_by : ℕ → ℕ
 byte_by n = pick (leb n 255) n 255
 
 -- a channel by two numbers: 1 and its byte; or 0 and 0, where there is none
-unfoldable pub channel_by : ℕ → ℕ → Channel
-channel_by there n = pick (eqb there 0 && eqb n 0) Channel.Absent (Channel.Of (pick (eqb there 1) (byte_by n) 255))
+unfoldable pub channel_by : ℕ → ℕ → Option ℕ
+channel_by there n = pick (eqb there 0 && eqb n 0) None (Some (pick (eqb there 1) (byte_by n) 255))
 
 -- a whole request: the count of bits, talker, report type, channel by two numbers, message number
 abbrev pub request_by : ℕ → ℕ → ℕ → ℕ → ℕ → ℕ → Request

@@ -51,8 +51,8 @@ pub fn sumturnip_unarmor(payload: &[u8], fill: usize, out: &mut [u8], answer: &m
         return 12;
     }
     let r = armour::unarmor(payload, fill, out);
-    answer[0] = layout_answer::unarmored_count(r);
-    layout_answer::unarmored_code(r)
+    answer[0] = layout_answer::counted(r);
+    layout_answer::counted_code(r)
 }
 
 // The writer: 0 with the count of bytes in the answer's first number, else the refusal's number. Talker, report type and channel (whether there is one, and its
@@ -75,7 +75,7 @@ pub fn sumturnip_write(
         return 12;
     }
     let request = request::request_of(count, talker, report, there, channel, number);
-    let r = writer::write(request, bits, out);
-    answer[0] = request::written_count(r);
-    request::written_code(r)
+    let written = writer::write(request, bits, out);
+    answer[0] = layout_answer::counted(written);
+    layout_answer::counted_code(written)
 }

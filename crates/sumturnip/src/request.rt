@@ -1,13 +1,9 @@
-// What the writer is asked for, out of numbers, and what it answers, in numbers. Talkers, report types and channels have the numbers that an
-// answer tells them by.
+// What the writer is asked for, out of numbers. Talkers, report types and channels have the numbers that an answer tells them by.
 ghost use Rattle.std.specs.Prelude.{◌≡◌};
-ghost use Rattle.refusal.specs.Words.{number_in};
-ghost use Rattle.writer.specs.Writer.{written_in};
-ghost use Rattle.layout_answer.specs.Sentence.{count_of};
 ghost use Rattle.sumturnip.specs.Request.{talker_by, report_by, byte_by, channel_by, request_by};
 
-use sentence::{AisReportType, Channel, TalkerId};
-use writer::{Request, Written};
+use sentence::{AisReportType, TalkerId};
+use writer::Request;
 
 // The request that these numbers tell; the writer refuses the one of numbers that tell none.
 pub fn request_of(
@@ -21,7 +17,7 @@ pub fn request_of(
     ensures { result ≡ request_by count talker report there channel number }
 {
     Request {
-        count: count,
+        count,
         talker_id: talker_of(talker),
         report_type: report_of(report),
         channel: channel_of(there, channel),
@@ -29,30 +25,7 @@ pub fn request_of(
     }
 }
 
-// The code of the writer: 0, or the refusal's number.
-pub fn written_code(r: Written) -> u32
-    ensures { result ≡ number_in (written_in r) }
-{
-    match r {
-        Written::Lines(_) => 0,
-        Written::Refused(refusal) => refusal::number(refusal) as u32,
-    }
-}
-
-// Its value: how many bytes were written, or the refusal's, which has none.
-pub fn written_count(r: Written) -> u64
-    ensures { result ≡ count_of (written_in r) }
-{
-    match r {
-        Written::Lines(n) => n as u64,
-        Written::Refused(refusal) => {
-            let v = refusal::values_of(refusal);
-            v.first
-        }
-    }
-}
-
-// A talker.
+// A talker. Not `From<u64>`: the numbers are the layout's, and the crate of `TalkerId` knows none of them.
 fn talker_of(n: u64) -> TalkerId
     ensures { result ≡ talker_by n }
 {
@@ -71,7 +44,7 @@ fn talker_of(n: u64) -> TalkerId
     }
 }
 
-// A report type.
+// A report type, in the same way.
 fn report_of(n: u64) -> AisReportType
     ensures { result ≡ report_by n }
 {
@@ -86,21 +59,21 @@ fn report_of(n: u64) -> AisReportType
 fn byte_of(n: u64) -> u8
     ensures { result ≡ byte_by n }
 {
-    if n < 256 { n as u8 } else { 255 }
+    u8::try_from(n).unwrap_or(255)
 }
 
 // A channel, or none where both numbers are 0.
-fn channel_of(there: u64, n: u64) -> Channel
+fn channel_of(there: u64, n: u64) -> Option<u8>
     ensures { result ≡ channel_by there n }
 {
     if there == 1 {
-        return Channel::Of(byte_of(n));
+        return Some(byte_of(n));
     }
     if there != 0 {
-        return Channel::Of(255);
+        return Some(255);
     }
     if n != 0 {
-        return Channel::Of(255);
+        return Some(255);
     }
-    Channel::Absent
+    None
 }

@@ -5,3 +5,4 @@ pub mod Decimals
 pub mod Unique
 pub mod Lengths
 pub mod Whole
+pub mod Pieces

@@ -1,86 +1,104 @@
-// Text put into a lent buffer from a place on: bytes, hex, decimals. What does not fit is left out, and each function answers the place after
-// what it put, so that a caller puts one piece after the other and tests nothing in between.
+// Text put into a lent buffer from a place on: bytes, hex, decimals. What does not fit is left out, and an output holds the place after what was put,
+// so that a caller puts one piece after the other and tests nothing in between.
 #![tactic(auto)]
 
 ghost use Rattle.std.specs.Prelude.{◌≡◌, [], ◌∷◌, ◌<◌, ◌≤◌, min, length, take, drop};
 ghost use Rattle.text_out.specs.Text.{text, put};
+ghost use Rattle.text_out.specs.Output.{stands, Puts};
 ghost use Rattle.text_out.specs.Digits.{glyph, decimal_of, hex_of, word_of};
 
-// One byte.
-pub fn put_byte(out: &mut [u8], at: usize, b: u8) -> usize
-    ensures { text result out.new ≡ put (text at out.old) (b ∷ []) }
-{
-    if at < out.len() {
-        out[at] = b;
-        return at + 1;
-    }
-    at
+// A lent buffer, and the place where the next byte goes.
+pub struct Output<'a> {
+    pub buffer: &'a mut [u8],
+    pub at: usize,
 }
 
-// A string of bytes: all at once where it fits.
-pub fn put_bytes(out: &mut [u8], at: usize, s: &[u8]) -> usize
-    ensures { text result out.new ≡ put (text at out.old) s.now }
-{
-    if at <= out.len() {
-        if s.len() <= out.len() - at {
-            out[at..at + s.len()].copy_from_slice(s);
-            return at + s.len();
+impl<'a> Output<'a> {
+    // From a place of a buffer on.
+    pub fn new(buffer: &'a mut [u8], at: usize) -> Self
+        ensures same { result.buffer.ghost_name ≡ buffer.entry.ghost_name }
+        ensures is { stands result ≡ text at buffer.old }
+    {
+        Self { buffer, at }
+    }
+
+    // One byte.
+    pub fn put_byte(&mut self, b: u8)
+        ensures { Puts self.old self.new (b ∷ []) }
+    {
+        if self.at < self.buffer.len() {
+            self.buffer[self.at] = b;
+            self.at += 1;
         }
     }
-    put_some(out, at, s)
-}
 
-// A string of which some may not fit.
-fn put_some(out: &mut [u8], at: usize, s: &[u8]) -> usize
-    ensures { text result out.new ≡ put (text at out.old) s.now }
-{
-    let mut p = at;
-    let mut i = 0;
-    while i < s.len() {
-        p = put_byte(out, p, s[i]);
-        i += 1;
+    // A string of bytes: all at once where it fits.
+    pub fn put_bytes(&mut self, s: &[u8])
+        ensures { Puts self.old self.new s.now }
+    {
+        if self.at <= self.buffer.len() {
+            if s.len() <= self.buffer.len() - self.at {
+                let end = self.at + s.len();
+                self.buffer[self.at..end].copy_from_slice(s);
+                self.at = end;
+                return;
+            }
+        }
+        self.put_some(s);
     }
-    p
-}
 
-// Bytes as pairs of lower-case hex digits.
-pub fn put_hex(out: &mut [u8], at: usize, s: &[u8]) -> usize
-    ensures { text result out.new ≡ put (text at out.old) (hex_of s.now) }
-{
-    let mut p = at;
-    let mut i = 0;
-    while i < s.len() {
-        let b = s[i];
-        p = put_byte(out, p, digit_of(b / 16));
-        p = put_byte(out, p, digit_of(b % 16));
-        i += 1;
+    // A string of which some may not fit.
+    fn put_some(&mut self, s: &[u8])
+        ensures { Puts self.old self.new s.now }
+    {
+        for &b in s {
+            self.put_byte(b);
+        }
     }
-    p
-}
 
-// A number of 32 bits as eight hex digits, as a float's bit pattern is shown.
-pub fn put_word(out: &mut [u8], at: usize, n: u32) -> usize
-    ensures { text result out.new ≡ put (text at out.old) (word_of n) }
-{
-    let b = [
-        (n / 16777216 % 256) as u8,
-        (n / 65536 % 256) as u8,
-        (n / 256 % 256) as u8,
-        (n % 256) as u8,
-    ];
-    put_hex(out, at, &b)
-}
-
-// A number in decimal, with no leading zeros. One digit, as most numbers of a report have, is put by itself.
-pub fn put_decimal(out: &mut [u8], at: usize, n: u64) -> usize
-    ensures { text result out.new ≡ put (text at out.old) (decimal_of n) }
-{
-    if n < 10 {
-        return put_byte(out, at, digit_of(n as u8));
+    // Bytes as pairs of lower-case hex digits.
+    pub fn put_hex(&mut self, s: &[u8])
+        ensures { Puts self.old self.new (hex_of s.now) }
+    {
+        for &b in s {
+            self.put_byte(digit_of(b / 16));
+            self.put_byte(digit_of(b % 16));
+        }
     }
-    let mut digits = [0u8; 20];
-    let i = spell(n, &mut digits);
-    put_bytes(out, at, &digits[i..])
+
+    // A number of 32 bits as eight hex digits, as a float's bit pattern is shown.
+    pub fn put_word(&mut self, n: u32)
+        ensures { Puts self.old self.new (word_of n) }
+    {
+        let b = [
+            (n / 16777216 % 256) as u8,
+            (n / 65536 % 256) as u8,
+            (n / 256 % 256) as u8,
+            (n % 256) as u8,
+        ];
+        self.put_hex(&b);
+    }
+
+    // A number in decimal, with no leading zeros. One digit, as most numbers of a report have, is put by itself.
+    pub fn put_decimal(&mut self, n: u64)
+        ensures { Puts self.old self.new (decimal_of n) }
+    {
+        if n < 10 {
+            self.put_byte(digit_of(n as u8));
+            return;
+        }
+        let mut digits = [0u8; 20];
+        let i = spell(n, &mut digits);
+        self.put_bytes(&digits[i..]);
+    }
+}
+
+impl Drop for Output<'_> {
+    fn drop(self)
+        ensures { self.exit.0.now ≡ self.entry.buffer.now }
+    {
+        let Self { buffer: _, at: _ } = self;
+    }
 }
 
 // The number n, or the length of s where that is less: a count of bytes of s, so that `&s[..up_to(n, s)]` asks its caller no proof.
@@ -92,6 +110,7 @@ pub fn up_to(n: usize, s: &[u8]) -> usize
 }
 
 // Puts the decimal digits of n last in `digits`, and answers the place of the first of them.
+// From the last one on while there are any: a `for` over the places would break off at the same test.
 fn spell(n: u64, digits: &mut [u8]) -> usize
     requires { length digits.old ≡ 20 }
     ensures digits_after { drop result digits.new ≡ decimal_of n }

@@ -1,5 +1,5 @@
 -- What is said to `unarmor`.
-use Rattle.std.specs.Prelude.{ℕ, List, length, take}
+use Rattle.std.specs.Prelude.{ℕ, List, length, take, Option, Some, None}
 use Rattle.refusal.specs.Words.{left}
 use Rattle.text_out.specs.Text.{ascii}
 use Rattle.trace_commands.specs.Line.{word_at}
@@ -17,9 +17,9 @@ unarmor_shown s fill lent =
     fill_shown (ascii "bytes ") t (left t (unarmored s fill) lent)
 
 -- `unarmor FILL ROOM DATA`: DATA of at most 4,096 bytes, which is more than a line can hold
-abbrev pub unarmor_by : List ℕ → Unarmor → List ℕ
-unarmor_by w (Unarmor.Of fill room) = with_bytes (filled_of w 4096) bad (unarmor_shown (bytes_of w) fill (take room lent_bytes))
-unarmor_by w Unarmor.Bad = bad
+abbrev pub unarmor_by : List ℕ → Option Unarmor → List ℕ
+unarmor_by w (Some a) = with_bytes (filled_of w 4096) bad (unarmor_shown (bytes_of w) a.fill (take a.room lent_bytes))
+unarmor_by w None = bad
 
 abbrev pub unarmor_said : List ℕ → List ℕ
 unarmor_said line = unarmor_by (word_at 3 line) (unarmor_asked line)

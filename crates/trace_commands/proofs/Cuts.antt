@@ -1,12 +1,18 @@
--- Words from a place of a line on, byte by byte. Assumes nothing.
+-- Words from a place of a line on, byte by byte; the first word, and the count of words, by the spaces. Assumes nothing.
 use Prim.Native.Nat.{ℕ, zero, suc, ◌+◌, ◌-◌, ◌≤◌, ◌<◌}
 use native.Mathlib.Omega.{arith}
 use native.Mathlib.Numerals.{add-one}
-use mathlib.Core.Path.{◌≡◌, refl, sym, ap, ◌∙◌}
-use mathlib.Core.List.{List, [], ◌∷◌, ◌++◌, append_assoc, append-nil}
-use lib.ListN.{length, get_or, take, drop, drop_of_length-le, length-drop}
-use lib.Seq.{drop-cons, take-suc, get_or-drop}
+use mathlib.Core.Path.{◌≡◌, refl, ap, ◌∙◌}
+use mathlib.Core.Bool.{Bool, true, false}
+use mathlib.Core.List.{List, [], ◌∷◌}
+use lib.Dec.{eqb}
+use lib.ListN.{length, get_or, take, drop, drop_of_length-le}
+use lib.Seq.{drop-cons}
 use borrow.Author.Tests.{eq-eqb, ne_eqb}
+use Rattle.std.specs.Prelude.{cond, count_by, position, unwrap_or}
+use Rattle.std.specs.List.{position_or_len}
+use Rattle.std.proofs.lemmas.Grind.{common_steps}
+use Rattle.std.proofs.lemmas.List.Sums.{prefix_len-le-length, sum_by-cons}
 use Rattle.trace_commands.specs.Line.{word_at, count_of}
 
 nothing : (k : ℕ) → word_at k [] ≡ []
@@ -20,53 +26,56 @@ module _ (s : List ℕ) (i : ℕ) where
     pub word_end : (k : ℕ) → word_at k (drop i s) ≡ []
     word_end k = ap (word_at k) (drop_of_length-le s over) ∙ nothing k
 
-    pub count-end : count_of (drop i s) ≡ 1
-    unfolding count_of
-    count-end = rw (drop_of_length-le s over)
-
   module _ (here : i < length s) where
     -- at a space
     module _ (space : get_or s i 0 ≡ 32) where
-      pub word-here : word_at 0 (drop i s) ≡ []
-      unfolding word_at
-      word-here = rw (drop-cons s i 0 here, eq-eqb (get_or s i 0) 32 space)
-
       pub skip_space : (k : ℕ) → 0 < k → word_at (k - 1) (drop (i + 1) s) ≡ word_at k (drop i s)
       unfolding word_at
       skip_space zero l = absurd (omega arith)
       skip_space (suc k) l =
           let z : suc k - 1 ≡ k = omega arith in rw (z, drop-cons s i 0 here, eq-eqb (get_or s i 0) 32 space, add-one i)
 
-      pub count_space : count_of (drop i s) ≡ count_of (drop (i + 1) s) + 1
-      unfolding count_of
-      count_space = rw (drop-cons s i 0 here, eq-eqb (get_or s i 0) 32 space, add-one i)
-
     -- at another byte
     module _ (other : get_or s i 0 ≡ 32 → ⊥) where
-      pub word_next : word_at 0 (drop i s) ≡ get_or s i 0 ∷ word_at 0 (drop (i + 1) s)
-      unfolding word_at
-      word_next = rw (drop-cons s i 0 here, ne_eqb (get_or s i 0) 32 other, add-one i)
-
       pub skip-other : (k : ℕ) → 0 < k → word_at k (drop (i + 1) s) ≡ word_at k (drop i s)
       unfolding word_at
       skip-other zero l = absurd (omega arith)
       skip-other (suc k) l = rw (drop-cons s i 0 here, ne_eqb (get_or s i 0) 32 other, add-one i)
 
-      pub count-other : count_of (drop i s) ≡ count_of (drop (i + 1) s)
-      unfolding count_of
-      count-other = rw (drop-cons s i 0 here, ne_eqb (get_or s i 0) 32 other, add-one i)
+-- a byte that ends a word
+abbrev space : ℕ → Bool
+space x = eqb x 32
 
--- a word that starts at `from`: the bytes passed and those from i on are the whole
-module _ (s : List ℕ) (from i : ℕ) (w : List ℕ) where
-  pub passed-next : from ≤ i → i < length s → (get_or s i 0 ≡ 32 → ⊥)
-      → take (i - from) (drop from s) ++ word_at 0 (drop i s) ≡ w → take (i + 1 - from) (drop from s) ++ word_at 0 (drop (i + 1) s) ≡ w
-  passed-next l here other e =
-      let z : i + 1 - from ≡ suc (i - from) = omega arith in
-      let p : from + (i - from) ≡ i = omega arith in
-      let b : get_or (drop from s) (i - from) 0 ≡ get_or s i 0 = get_or-drop from s (i - from) 0 ∙ ap (λ (j : ℕ). get_or s j 0) p in
-      let t : take (suc (i - from)) (drop from s) ≡ take (i - from) (drop from s) ++ get_or s i 0 ∷ [] =
-      take-suc (drop from s) (i - from) 0 (omega (arith, length-drop from s)) ∙ ap (λ (x : ℕ). take (i - from) (drop from s) ++ x ∷ []) b in
-      rw (z, t, append_assoc (take (i - from) (drop from s)) (get_or s i 0 ∷ []) (word_at 0 (drop (i + 1) s)), sym (word_next s i here other)) e
+-- one word more than spaces
+pub spaces_counted : (s : List ℕ) → count_by space s + 1 ≡ count_of s
+unfolding count_of
+spaces_counted [] = refl
+spaces_counted (x ∷ s) = go (eqb x 32) refl (sum_by-cons (λ (y : ℕ). cond (space y) 1 0) x s) (spaces_counted s)
+  where
+    go : (b : Bool) → eqb x 32 ≡ b → count_by space (x ∷ s) ≡ cond b 1 0 + count_by space s → count_by space s + 1 ≡ count_of s
+        → count_by space (x ∷ s) + 1 ≡ count_of (x ∷ s)
+    go true e z h = let k : count_of (x ∷ s) ≡ count_of s + 1 = rw e in omega (arith, z, h, k)
+    go false e z h = let k : count_of (x ∷ s) ≡ count_of s = rw e in omega (arith, z, h, k)
 
-  pub passed_all : word_at 0 (drop i s) ≡ [] → take (i - from) (drop from s) ++ word_at 0 (drop i s) ≡ w → take (i - from) (drop from s) ≡ w
-  passed_all n e = sym (ap (λ (t : List ℕ). take (i - from) (drop from s) ++ t) n ∙ append-nil (take (i - from) (drop from s))) ∙ e
+-- the first word is what stands before the first space, or all
+until_inside : (s : List ℕ) → position_or_len space s ≤ length s
+until_inside s = prefix_len-le-length _ s
+
+until_word : (s : List ℕ) → take (position_or_len space s) s ≡ word_at 0 s
+unfolding word_at
+until_word [] = refl
+until_word (x ∷ s) = go (eqb x 32) refl (until_word s)
+  where
+    go : (b : Bool) → eqb x 32 ≡ b → take (position_or_len space s) s ≡ word_at 0 s → take (position_or_len space (x ∷ s)) (x ∷ s) ≡ word_at 0 (x ∷ s)
+    go true e h = rw e
+    go false e h = let z : 1 + position_or_len space s ≡ suc (position_or_len space s) = omega arith in rw (e, z, h)
+
+module _ (s : List ℕ) (n : ℕ) (found : n ≡ unwrap_or (position space s) (length s)) where
+  at_space : n ≡ position_or_len space s
+  at_space = grind (arith, common_steps, until_inside s)
+
+  pub first_inside : n ≤ length s
+  first_inside = omega (arith, at_space, until_inside s)
+
+  pub first_word : take n s ≡ word_at 0 s
+  first_word = ap (λ (k : ℕ). take k s) at_space ∙ until_word s

@@ -14,7 +14,7 @@ use Rattle.text_out.specs.Text.{Text, put}
 use Rattle.text_out.proofs.Laws.{put-put}
 use Rattle.trace_commands.specs.Numbers.{digit_of, number_from}
 use Rattle.trace_commands.specs.Hex.{all_hex, bytes_of}
-use Rattle.trace_commands.specs.declared.words.Number.TheVariants.{Of, Bad}
+use Rattle.std.specs.Prelude.{Some, None}
 use Rattle.lines.proofs.Same.{both}
 
 -- a byte, by where it lies
@@ -36,7 +36,7 @@ module _ (x : ℕ) where
 
 -- decimal digits
 module _ (w : List ℕ) (v i : ℕ) where
-  pub number-end : length w ≤ i → number_from v (drop i w) ≡ Of v
+  pub number-end : length w ≤ i → number_from v (drop i w) ≡ Some v
   unfolding number_from
   number-end l = rw (drop_of_length-le w l)
 
@@ -46,11 +46,11 @@ module _ (w : List ℕ) (v i : ℕ) where
     unfolding number_from
     number-next d f = rw (drop-cons w i 0 here, lt-ltb (digit_of (get_or w i 0)) 10 d, lt-ltb (v * 10 + digit_of (get_or w i 0)) (2 ^ 64) f, add-one i)
 
-    pub number_no_digit : 10 ≤ digit_of (get_or w i 0) → number_from v (drop i w) ≡ Bad
+    pub number_no_digit : 10 ≤ digit_of (get_or w i 0) → number_from v (drop i w) ≡ None
     unfolding number_from
     number_no_digit d = rw (drop-cons w i 0 here, le-ltb (digit_of (get_or w i 0)) 10 d)
 
-    pub number_too_large : digit_of (get_or w i 0) < 10 → 2 ^ 64 ≤ v * 10 + digit_of (get_or w i 0) → number_from v (drop i w) ≡ Bad
+    pub number_too_large : digit_of (get_or w i 0) < 10 → 2 ^ 64 ≤ v * 10 + digit_of (get_or w i 0) → number_from v (drop i w) ≡ None
     unfolding number_from
     number_too_large d f = rw (drop-cons w i 0 here, lt-ltb (digit_of (get_or w i 0)) 10 d, le-ltb (v * 10 + digit_of (get_or w i 0)) (2 ^ 64) f)
 

@@ -1,13 +1,11 @@
 -- NOTHING IS LOST: what a command gives back and the output are told by the record and the text. Assumes nothing.
 use mathlib.Core.Path.{◌≡◌}
-use mathlib.Core.List.{List}
-use Prim.Native.Nat.{ℕ}
-use Rattle.text_out.specs.Text.{text}
+use Rattle.reassembly.specs.declared.Record.{Record}
+use Rattle.text_out.specs.Output.{stands}
+use Rattle.text_out.specs.declared.Output.{Output}
 use Rattle.text_out.proofs.Unique.{same_text}
-use Rattle.trace_commands.specs.declared.Answered.{Answered}
 
-pub same_answered : (a b : Answered) (l m : List ℕ) → text a.at l ≡ text b.at m → a.state ≡ b.state → (a ≡ b) × (l ≡ m)
-same_answered a b l m e s =
-    let t = same_text a.at b.at l m e in
-    let same : ◌≡◌ {A = Answered} (record { state = a.state; at = a.at }) (record { state = b.state; at = b.at }) = rw (s, t.0) in
-    (same, t.1)
+pub same_answered : (r s : Record) (a b : Output) → stands a ≡ stands b → r ≡ s → (r ≡ s) × (a.at ≡ b.at) × (a.buffer.now ≡ b.buffer.now)
+same_answered r s a b e k =
+    let t = same_text a.at b.at a.buffer.now b.buffer.now e in
+    (k, t.0, t.1)

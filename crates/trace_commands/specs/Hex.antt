@@ -1,11 +1,9 @@
 -- Bytes, as a command has them: one or more pairs of lower-case hex digits, or `-` for no bytes.
-use Rattle.std.specs.Prelude.{ℕ, ◌+◌, ◌*◌, ◌/◌, ◌%◌, ◌≡◌, Bool, true, ◌&&◌, List, [], ◌∷◌, length, eqb, leb, ltb}
+use Rattle.std.specs.Prelude.{ℕ, ◌+◌, ◌*◌, ◌/◌, ◌%◌, ◌≡◌, Bool, true, ◌&&◌, List, [], ◌∷◌, length, eqb, leb, ltb, Option, Some, None}
 use Rattle.refusal.specs.Words.{pick, over}
 use Rattle.text_out.specs.Text.{ascii}
 use Rattle.lines.specs.Same.{same_as}
 use Rattle.trace_commands.specs.Numbers.{digit_of}
-use Rattle.trace_commands.specs.declared.words.Filled.{Filled}
-use Rattle.trace_commands.specs.declared.words.Filled.TheVariants.{Bytes, Bad}
 
 -- whether each byte is a hex digit
 unfoldable pub all_hex : List ℕ → Bool
@@ -27,14 +25,14 @@ abbrev pub readable : List ℕ → ℕ → Bool
 readable w room = pairs_of w && leb (length w / 2) room
 
 -- what is answered for a word: how many bytes it has
-unfoldable pub filled_of : List ℕ → ℕ → Filled
-filled_of w room = pick (same_as w (ascii "-")) (Bytes 0) (pick (readable w room) (Bytes (length w / 2)) Bad)
+unfoldable pub filled_of : List ℕ → ℕ → Option ℕ
+filled_of w room = pick (same_as w (ascii "-")) (Some 0) (pick (readable w room) (Some (length w / 2)) None)
 
 -- the buffer afterwards: the bytes stand first; a word that is not read, and `-`, leave it as it was
 unfoldable pub left_of : List ℕ → List ℕ → List ℕ
 left_of w buffer = pick (readable w (length buffer)) (over (bytes_of w) buffer) buffer
 
 -- the answer for a word and the buffer after the call
-pub record Fills (w buffer : List ℕ) (r : Filled) (after : List ℕ) : Type 0 where
+pub record Fills (w buffer : List ℕ) (r : Option ℕ) (after : List ℕ) : Type 0 where
   pub answers : r ≡ filled_of w (length buffer)
   pub leaves : after ≡ left_of w buffer

@@ -1,5 +1,5 @@
 -- The words of a command line: what stands between single spaces.
-use Rattle.std.specs.Prelude.{ℕ, zero, suc, ◌+◌, ◌-◌, ◌≤◌, ◌≡◌, List, [], ◌∷◌, length, take, drop, eqb}
+use Rattle.std.specs.Prelude.{ℕ, zero, suc, ◌+◌, List, [], ◌∷◌, eqb}
 use Rattle.refusal.specs.Words.{pick}
 
 -- word k of a line, from 0 on, cut at each space (32); nothing where the line has fewer
@@ -12,9 +12,3 @@ word_at (suc k) (x ∷ s) = pick (eqb x 32) (word_at k s) (word_at (suc k) s)
 unfoldable pub count_of : List ℕ → ℕ
 count_of [] = 1
 count_of (x ∷ s) = pick (eqb x 32) (count_of s + 1) (count_of s)
-
--- the word w stands in a line from the one place to the other
-pub record Stands (w line : List ℕ) (from to : ℕ) : Type 0 where
-  pub starts : from ≤ to
-  pub ends : to ≤ length line
-  pub is : take (to - from) (drop from line) ≡ w

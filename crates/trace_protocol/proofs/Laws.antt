@@ -3,7 +3,9 @@ use Prim.Native.Nat.{ℕ}
 use mathlib.Core.Path.{◌≡◌, sym, subst}
 use mathlib.Core.Bool.{true, false}
 use mathlib.Core.List.{List}
-use Rattle.text_out.specs.Text.{Text, put, ascii}
+use Rattle.text_out.specs.Text.{ascii}
+use Rattle.text_out.specs.Output.{Puts}
+use Rattle.text_out.specs.declared.Output.{Output}
 use Rattle.trace_commands.specs.Line.{word_at}
 use Rattle.lines.specs.Same.{same_as}
 use Rattle.reassembly.specs.declared.Record.{Record}
@@ -33,5 +35,5 @@ module _ (state : Record) (line : List ℕ) where
       reply-alone e = rw (d, l, e)
 
 -- what was said, and the record that was kept, of an equal reply
-pub as_replied : {a b : Reply} → a ≡ b → (x y : Text) (state : Record) → (y ≡ put x b.said) × (state ≡ b.kept) → (y ≡ put x a.said) × (state ≡ a.kept)
-as_replied e x y state f = subst (λ (r : Reply). (y ≡ put x r.said) × (state ≡ r.kept)) (sym e) f
+pub as_replied : {a b : Reply} → a ≡ b → (x y : Output) (state : Record) → Puts x y b.said × (state ≡ b.kept) → Puts x y a.said × (state ≡ a.kept)
+as_replied e x y state f = subst (λ (r : Reply). Puts x y r.said × (state ≡ r.kept)) (sym e) f

@@ -1,5 +1,5 @@
 -- What is said to `read`, and the record that it leaves. What stands in quotes is the comparing protocol's text.
-use Rattle.std.specs.Prelude.{ℕ, List, take}
+use Rattle.std.specs.Prelude.{ℕ, List, take, Option, Some, None}
 use Rattle.trace_commands.specs.Line.{word_at}
 use Rattle.trace_commands.specs.Hex.{bytes_of, filled_of}
 use Rattle.reassembly.specs.declared.Record.{Record}
@@ -20,10 +20,10 @@ abbrev pub line_reply : Record → List ℕ → Decode → List ℕ → List ℕ
 line_reply state sent decode payload bits = called_reply decode (called_of state sent decode payload bits)
 
 -- LINE of at most 4,096 bytes, which is more than a command line can hold
-abbrev pub read_by : Record → List ℕ → Read → Reply
-read_by state w (Read.Of decode room bit_room) =
-    with_bytes (filled_of w 4096) (bad_reply state) (line_reply state (bytes_of w) decode (take room lent_bytes) (take bit_room lent_bytes))
-read_by state w Read.Bad = bad_reply state
+abbrev pub read_by : Record → List ℕ → Option Read → Reply
+read_by state w (Some a) =
+    with_bytes (filled_of w 4096) (bad_reply state) (line_reply state (bytes_of w) a.decode (take a.room lent_bytes) (take a.bit_room lent_bytes))
+read_by state w None = bad_reply state
 
 -- `read DECODE ROOM BITROOM LINE`
 abbrev pub read_reply : Record → List ℕ → Reply

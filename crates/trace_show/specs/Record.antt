@@ -1,7 +1,6 @@
 -- The reassembly record as the comparing protocol shows it: "`ID FRAGMENT LENGTH BYTES`".
-use Rattle.std.specs.Prelude.{ℕ, ◌&&◌, List, [], ◌∷◌, ◌++◌, length, eqb}
+use Rattle.std.specs.Prelude.{ℕ, ◌&&◌, List, [], ◌∷◌, ◌++◌, length, eqb, Option, Some, None}
 use Rattle.refusal.specs.Words.{pick}
-use Rattle.sentence.specs.declared.Number.{Number}
 use Rattle.reassembly.specs.declared.Record.{Record}
 use Rattle.text_out.specs.Text.{ascii}
 use Rattle.text_out.specs.Digits.{decimal_of}
@@ -12,9 +11,9 @@ abbrev pub number : ℕ → List ℕ
 number v = 32 ∷ decimal_of v
 
 -- "ID is the message number or `-`"
-abbrev pub id_shown : Number → List ℕ
-id_shown Number.Absent = ascii " -"
-id_shown (Number.Of n) = number n
+abbrev pub id_shown : Option ℕ → List ℕ
+id_shown None = ascii " -"
+id_shown (Some n) = number n
 
 -- "with the zeros at the end left off"
 unfoldable pub trimmed : List ℕ → List ℕ

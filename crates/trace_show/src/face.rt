@@ -1,199 +1,191 @@
 // What an answer tells, in the words of the comparing protocol: tables over its layout.
 ghost use Rattle.std.specs.Prelude.{◌≡◌};
-ghost use Rattle.text_out.specs.Text.{text, put};
+ghost use Rattle.text_out.specs.Output.{Puts};
 ghost use Rattle.face_rows.specs.Rows.{printed};
-ghost use Rattle.trace_show.specs.Tables.{sentence_table, refusal_table, position_table, static_table, asked_table, none_table};
+ghost use Rattle.trace_show.specs.Tables.{sentence_table, refusal_table};
 ghost use Rattle.trace_show.specs.Message.{message_words};
 
-// The words of all tables.
-const WORDS: [u8; 155] =
-    *b"interrogation  stations  starboardposition  sotdma refused  Unknown offset  itdma  slot  port utc craftnone VDOname\
-      part VDM AD BS AT AB AN SA AS AR AX AI -";
+use face_rows::Row;
+use face_rows::Row::{Group, Put, Words};
+use face_rows::Test::{Always, Is, IsNot, Least};
+use face_rows::Value::{Hexed, Number, Pattern, Signed};
+use face_rows::places::{
+    ACCURACY, CALLSIGN_LENGTH, CALLSIGN_START, CHANNEL, CHANNEL_THERE, CODE, COURSE, COURSE_RAW,
+    COURSE_THERE, CRATE_TYPE, DIRECTION, FILL, FIRST_MESSAGES, FIRST_MMSI, FIRST_OFFSET_THERE1,
+    FIRST_OFFSET_THERE2, FIRST_OFFSET1, FIRST_OFFSET2, FIRST_TYPE1, FIRST_TYPE2, FIRST_VALUE,
+    FRAGMENT, HEADING, HEADING_THERE, ID, ID_THERE, INCREMENT, KEEP, KIND, LATITUDE, LATITUDE_RAW,
+    LATITUDE_THERE, LONGITUDE, LONGITUDE_RAW, LONGITUDE_THERE, MANOEUVRE, MINUTE, MMSI, MODEL,
+    MODEL_TEXT_LENGTH, MODEL_TEXT_START, NAME_LENGTH, NAME_START, PART, RADIO_KIND, RAIM, RATE,
+    RATE_THERE, REPEAT, REPORT, SECOND, SECOND_MESSAGES, SECOND_MMSI, SECOND_OFFSET_THERE1,
+    SECOND_OFFSET_THERE2, SECOND_OFFSET1, SECOND_OFFSET2, SECOND_TYPE1, SECOND_TYPE2, SECOND_VALUE,
+    SENT_BITS, SERIAL, SHIP_TYPE, SLOTS, SPEED, SPEED_RAW, SPEED_THERE, STATIONS, STATUS, SUB,
+    SUB_KIND, SYNC, TALKER, TIMEOUT, TO_BOW, TO_PORT, TO_STARBOARD, TO_STERN, TOTAL, TRUE_TYPE,
+    TRUE_TYPE_THERE, TURN, TURN_THERE, TYPE, VALUE_COUNT, VENDOR_LENGTH, VENDOR_START,
+};
+use text_out::Output;
 
-// A row in hex: S_T_VV_PP_K_QQ_RR_FFF_LL, as crate `face_rows` reads it.
-const SENTENCE: [u64; 25] = [
-    0x0_1_00_02_0_00_00_03b_08,
-    0x0_1_01_02_0_00_00_084_03,
-    0x0_1_02_02_0_00_00_07b_03,
-    0x0_1_03_02_0_00_00_096_03,
-    0x0_1_04_02_0_00_00_087_03,
-    0x0_1_05_02_0_00_00_090_03,
-    0x0_1_06_02_0_00_00_08d_03,
-    0x0_1_07_02_0_00_00_081_03,
-    0x0_1_08_02_0_00_00_093_03,
-    0x0_1_09_02_0_00_00_07e_03,
-    0x0_1_0a_02_0_00_00_08a_03,
-    0x0_1_00_03_0_00_00_03b_08,
-    0x0_1_01_03_0_00_00_077_04,
-    0x0_1_02_03_0_00_00_06b_04,
-    0x0_0_00_00_1_04_00_00d_01,
-    0x0_0_00_00_1_05_00_00d_01,
-    0x0_1_01_06_1_07_00_00d_01,
-    0x0_2_01_06_0_00_00_099_02,
-    0x0_1_01_08_1_09_00_00d_01,
-    0x0_2_01_08_0_00_00_099_02,
-    0x0_0_00_00_1_0a_00_00d_01,
-    0x0_0_00_00_1_0b_00_00d_01,
-    0x0_1_01_0c_1_0d_00_00d_01,
-    0x0_2_01_0c_0_00_00_099_02,
-    0x0_0_00_00_1_0f_00_00d_01,
+// Of a line that was taken.
+const SENTENCE: &[Row] = &[
+    Words(Is(TALKER, 0), b" Unknown"),
+    Words(Is(TALKER, 1), b" AB"),
+    Words(Is(TALKER, 2), b" AD"),
+    Words(Is(TALKER, 3), b" AI"),
+    Words(Is(TALKER, 4), b" AN"),
+    Words(Is(TALKER, 5), b" AR"),
+    Words(Is(TALKER, 6), b" AS"),
+    Words(Is(TALKER, 7), b" AT"),
+    Words(Is(TALKER, 8), b" AX"),
+    Words(Is(TALKER, 9), b" BS"),
+    Words(Is(TALKER, 10), b" SA"),
+    Words(Is(REPORT, 0), b" Unknown"),
+    Words(Is(REPORT, 1), b" VDM"),
+    Words(Is(REPORT, 2), b" VDO"),
+    Put(Always, b" ", Number(TOTAL)),
+    Put(Always, b" ", Number(FRAGMENT)),
+    Put(Is(ID_THERE, 1), b" ", Number(ID)),
+    Words(IsNot(ID_THERE, 1), b" -"),
+    Put(Is(CHANNEL_THERE, 1), b" ", Number(CHANNEL)),
+    Words(IsNot(CHANNEL_THERE, 1), b" -"),
+    Put(Always, b" ", Number(FILL)),
+    Put(Always, b" ", Number(CRATE_TYPE)),
+    Put(Is(TRUE_TYPE_THERE, 1), b" ", Number(TRUE_TYPE)),
+    Words(IsNot(TRUE_TYPE_THERE, 1), b" -"),
+    Put(Always, b" ", Number(SENT_BITS)),
 ];
 
-const REFUSAL: [u64; 3] = [
-    0x0_0_00_00_1_34_00_033_08,
-    0x0_3_01_35_1_00_00_00d_01,
-    0x0_3_02_35_1_01_00_00d_01,
+// A refusal.
+const REFUSAL: &[Row] = &[
+    Put(Always, b"refused ", Number(CODE)),
+    Put(Least(VALUE_COUNT, 1), b" ", Number(FIRST_VALUE)),
+    Put(Least(VALUE_COUNT, 2), b" ", Number(SECOND_VALUE)),
 ];
 
-const POSITION: [u64; 44] = [
-    0x0_0_00_00_1_11_00_022_09,
-    0x0_0_00_00_1_12_00_00d_01,
-    0x0_0_00_00_1_13_00_00d_01,
-    0x0_2_0f_14_1_14_00_00d_01,
-    0x0_1_0f_14_0_00_00_099_02,
-    0x0_1_01_15_2_16_00_00d_01,
-    0x0_2_01_15_0_00_00_099_02,
-    0x0_1_01_17_7_18_00_00d_01,
-    0x0_2_01_17_0_00_00_099_02,
-    0x0_1_00_19_0_00_00_099_02,
-    0x0_1_01_19_0_00_00_058_05,
-    0x0_1_02_19_0_00_00_018_0a,
-    0x0_0_00_00_1_1c_00_00d_01,
-    0x0_1_01_1a_7_1b_00_00d_01,
-    0x0_2_01_1a_0_00_00_099_02,
-    0x0_0_00_00_1_1d_00_00d_01,
-    0x0_0_00_00_2_20_00_00d_01,
-    0x0_1_01_1e_7_1f_00_00d_01,
-    0x0_2_01_1e_0_00_00_099_02,
-    0x0_0_00_00_2_23_00_00d_01,
-    0x0_1_01_21_7_22_00_00d_01,
-    0x0_2_01_21_0_00_00_099_02,
-    0x0_0_00_00_1_26_00_00d_01,
-    0x0_1_01_24_7_25_00_00d_01,
-    0x0_2_01_24_0_00_00_099_02,
-    0x0_1_01_27_1_28_00_00d_01,
-    0x0_2_01_27_0_00_00_099_02,
-    0x0_0_00_00_1_29_00_00d_01,
-    0x0_2_00_2a_1_2a_00_00d_01,
-    0x0_1_00_2a_0_00_00_099_02,
-    0x0_0_00_00_1_2b_00_00d_01,
-    0x7_1_01_2c_0_00_00_000_00,
-    0x0_0_00_00_1_2d_00_02b_08,
-    0x0_0_00_00_1_2e_00_00d_01,
-    0x0_1_01_2f_1_30_00_043_08,
-    0x0_1_02_2f_1_30_00_05d_05,
-    0x0_1_02_2f_1_31_00_00d_01,
-    0x0_1_03_2f_1_30_00_052_06,
-    0x0_1_04_2f_1_30_00_00e_0a,
-    0x4_1_02_2c_0_00_00_000_00,
-    0x0_0_00_00_1_2d_00_04b_07,
-    0x0_0_00_00_1_2e_00_00d_01,
-    0x0_0_00_00_1_2f_00_00d_01,
-    0x0_0_00_00_1_30_00_00d_01,
+// A position report.
+const POSITION: &[Row] = &[
+    Put(Always, b"position ", Number(TYPE)),
+    Put(Always, b" ", Number(REPEAT)),
+    Put(Always, b" ", Number(MMSI)),
+    Put(IsNot(STATUS, 15), b" ", Number(STATUS)),
+    Words(Is(STATUS, 15), b" -"),
+    Put(Is(TURN_THERE, 1), b" ", Signed(TURN)),
+    Words(IsNot(TURN_THERE, 1), b" -"),
+    Put(Is(RATE_THERE, 1), b" ", Pattern(RATE)),
+    Words(IsNot(RATE_THERE, 1), b" -"),
+    Words(Is(DIRECTION, 0), b" -"),
+    Words(Is(DIRECTION, 1), b" port"),
+    Words(Is(DIRECTION, 2), b" starboard"),
+    Put(Always, b" ", Number(SPEED_RAW)),
+    Put(Is(SPEED_THERE, 1), b" ", Pattern(SPEED)),
+    Words(IsNot(SPEED_THERE, 1), b" -"),
+    Put(Always, b" ", Number(ACCURACY)),
+    Put(Always, b" ", Signed(LONGITUDE_RAW)),
+    Put(Is(LONGITUDE_THERE, 1), b" ", Pattern(LONGITUDE)),
+    Words(IsNot(LONGITUDE_THERE, 1), b" -"),
+    Put(Always, b" ", Signed(LATITUDE_RAW)),
+    Put(Is(LATITUDE_THERE, 1), b" ", Pattern(LATITUDE)),
+    Words(IsNot(LATITUDE_THERE, 1), b" -"),
+    Put(Always, b" ", Number(COURSE_RAW)),
+    Put(Is(COURSE_THERE, 1), b" ", Pattern(COURSE)),
+    Words(IsNot(COURSE_THERE, 1), b" -"),
+    Put(Is(HEADING_THERE, 1), b" ", Number(HEADING)),
+    Words(IsNot(HEADING_THERE, 1), b" -"),
+    Put(Always, b" ", Number(SECOND)),
+    Put(IsNot(MANOEUVRE, 0), b" ", Number(MANOEUVRE)),
+    Words(Is(MANOEUVRE, 0), b" -"),
+    Put(Always, b" ", Number(RAIM)),
+    Group(Is(RADIO_KIND, 1), 7),
+    Put(Always, b" sotdma ", Number(SYNC)),
+    Put(Always, b" ", Number(TIMEOUT)),
+    Put(Is(SUB_KIND, 1), b" offset ", Number(SUB)),
+    Put(Is(SUB_KIND, 2), b" utc ", Number(SUB)),
+    Put(Is(SUB_KIND, 2), b" ", Number(MINUTE)),
+    Put(Is(SUB_KIND, 3), b" slot ", Number(SUB)),
+    Put(Is(SUB_KIND, 4), b" stations ", Number(SUB)),
+    Group(Is(RADIO_KIND, 2), 4),
+    Put(Always, b" itdma ", Number(SYNC)),
+    Put(Always, b" ", Number(INCREMENT)),
+    Put(Always, b" ", Number(SLOTS)),
+    Put(Always, b" ", Number(KEEP)),
 ];
 
-const STATIC: [u64; 18] = [
-    0x0_1_00_14_0_00_00_06f_04,
-    0x0_1_01_14_0_00_00_062_05,
-    0x0_3_02_14_0_00_00_073_04,
-    0x0_0_00_00_1_12_00_00d_01,
-    0x0_0_00_00_1_13_00_00d_01,
-    0x0_1_00_14_6_1c_00_00d_01,
-    0xa_1_01_14_0_00_00_000_00,
-    0x0_0_00_00_1_15_00_00d_01,
-    0x0_0_00_00_6_1d_14_00d_01,
-    0x0_0_00_00_6_1e_28_00d_01,
-    0x0_0_00_00_1_16_00_00d_01,
-    0x0_0_00_00_1_17_00_00d_01,
-    0x0_0_00_00_6_1f_3c_00d_01,
-    0x0_0_00_00_1_18_00_00d_01,
-    0x0_0_00_00_1_19_00_00d_01,
-    0x0_0_00_00_1_1a_00_00d_01,
-    0x0_0_00_00_1_1b_00_00d_01,
-    0x0_3_02_14_1_14_00_00d_01,
+// A static data report.
+const STATIC: &[Row] = &[
+    Words(Is(PART, 0), b"name"),
+    Words(Is(PART, 1), b"craft"),
+    Words(Least(PART, 2), b"part"),
+    Put(Always, b" ", Number(REPEAT)),
+    Put(Always, b" ", Number(MMSI)),
+    Put(Is(PART, 0), b" ", Hexed(NAME_LENGTH, NAME_START)),
+    Group(Is(PART, 1), 10),
+    Put(Always, b" ", Number(SHIP_TYPE)),
+    Put(Always, b" ", Hexed(VENDOR_LENGTH, VENDOR_START)),
+    Put(Always, b" ", Hexed(MODEL_TEXT_LENGTH, MODEL_TEXT_START)),
+    Put(Always, b" ", Number(MODEL)),
+    Put(Always, b" ", Number(SERIAL)),
+    Put(Always, b" ", Hexed(CALLSIGN_LENGTH, CALLSIGN_START)),
+    Put(Always, b" ", Number(TO_BOW)),
+    Put(Always, b" ", Number(TO_STERN)),
+    Put(Always, b" ", Number(TO_PORT)),
+    Put(Always, b" ", Number(TO_STARBOARD)),
+    Put(Least(PART, 2), b" ", Number(PART)),
 ];
 
-const ASKED: [u64; 25] = [
-    0x0_0_00_00_1_12_00_000_0e,
-    0x0_0_00_00_1_13_00_00d_01,
-    0x0_0_00_00_1_14_00_00d_01,
-    0xa_3_01_14_0_00_00_000_00,
-    0x0_0_00_00_1_15_00_00d_01,
-    0x0_0_00_00_1_16_00_00d_01,
-    0x3_3_01_16_0_00_00_000_00,
-    0x0_0_00_00_1_17_00_00d_01,
-    0x0_1_01_18_1_19_00_00d_01,
-    0x0_2_01_18_0_00_00_099_02,
-    0x3_3_02_16_0_00_00_000_00,
-    0x0_0_00_00_1_1a_00_00d_01,
-    0x0_1_01_1b_1_1c_00_00d_01,
-    0x0_2_01_1b_0_00_00_099_02,
-    0xa_3_02_14_0_00_00_000_00,
-    0x0_0_00_00_1_1d_00_00d_01,
-    0x0_0_00_00_1_1e_00_00d_01,
-    0x3_3_01_1e_0_00_00_000_00,
-    0x0_0_00_00_1_1f_00_00d_01,
-    0x0_1_01_20_1_21_00_00d_01,
-    0x0_2_01_20_0_00_00_099_02,
-    0x3_3_02_1e_0_00_00_000_00,
-    0x0_0_00_00_1_22_00_00d_01,
-    0x0_1_01_23_1_24_00_00d_01,
-    0x0_2_01_23_0_00_00_099_02,
+// An interrogation.
+const ASKED: &[Row] = &[
+    Put(Always, b"interrogation ", Number(REPEAT)),
+    Put(Always, b" ", Number(MMSI)),
+    Put(Always, b" ", Number(STATIONS)),
+    Group(Least(STATIONS, 1), 10),
+    Put(Always, b" ", Number(FIRST_MMSI)),
+    Put(Always, b" ", Number(FIRST_MESSAGES)),
+    Group(Least(FIRST_MESSAGES, 1), 3),
+    Put(Always, b" ", Number(FIRST_TYPE1)),
+    Put(Is(FIRST_OFFSET_THERE1, 1), b" ", Number(FIRST_OFFSET1)),
+    Words(IsNot(FIRST_OFFSET_THERE1, 1), b" -"),
+    Group(Least(FIRST_MESSAGES, 2), 3),
+    Put(Always, b" ", Number(FIRST_TYPE2)),
+    Put(Is(FIRST_OFFSET_THERE2, 1), b" ", Number(FIRST_OFFSET2)),
+    Words(IsNot(FIRST_OFFSET_THERE2, 1), b" -"),
+    Group(Least(STATIONS, 2), 10),
+    Put(Always, b" ", Number(SECOND_MMSI)),
+    Put(Always, b" ", Number(SECOND_MESSAGES)),
+    Group(Least(SECOND_MESSAGES, 1), 3),
+    Put(Always, b" ", Number(SECOND_TYPE1)),
+    Put(Is(SECOND_OFFSET_THERE1, 1), b" ", Number(SECOND_OFFSET1)),
+    Words(IsNot(SECOND_OFFSET_THERE1, 1), b" -"),
+    Group(Least(SECOND_MESSAGES, 2), 3),
+    Put(Always, b" ", Number(SECOND_TYPE2)),
+    Put(Is(SECOND_OFFSET_THERE2, 1), b" ", Number(SECOND_OFFSET2)),
+    Words(IsNot(SECOND_OFFSET_THERE2, 1), b" -"),
 ];
 
-const NONE: [u64; 1] = [0x0_0_00_00_0_00_00_067_04];
+// No message.
+const NONE: &[Row] = &[Words(Always, b"none")];
 
 // A message, by its kind.
-pub fn put_message(out: &mut [u8], at: usize, numbers: &[u64], texts: &[u8]) -> usize
-    ensures { text result out.new ≡ put (text at out.old) (message_words numbers.now texts.now) }
+pub fn put_message(out: &mut Output, numbers: &[u64], texts: &[u8])
+    ensures { Puts out.old out.new (message_words numbers.now texts.now) }
 {
-    let kind = face_rows::number_at(numbers, 16);
+    // a kind is a number of the layout, as C callers have it
+    let kind = face_rows::number_at(numbers, KIND);
     match kind {
-        1 => put_position(out, at, numbers, texts),
-        2 => put_static(out, at, numbers, texts),
-        3 => put_asked(out, at, numbers, texts),
-        _ => put_none(out, at, numbers, texts),
+        1 => face_rows::put_rows(out, POSITION, numbers, texts),
+        2 => face_rows::put_rows(out, STATIC, numbers, texts),
+        3 => face_rows::put_rows(out, ASKED, numbers, texts),
+        _ => face_rows::put_rows(out, NONE, numbers, texts),
     }
 }
 
-// What is told of a line that was taken.
-pub fn put_sentence(out: &mut [u8], at: usize, numbers: &[u64], texts: &[u8]) -> usize
-    ensures { text result out.new ≡ put (text at out.old) (printed sentence_table numbers.now texts.now) }
+// What is told of a line that was taken: a name for a table, as callers know no table.
+pub fn put_sentence(out: &mut Output, numbers: &[u64], texts: &[u8])
+    ensures { Puts out.old out.new (printed sentence_table numbers.now texts.now) }
 {
-    face_rows::put_rows(out, at, &SENTENCE, &WORDS, numbers, texts)
+    face_rows::put_rows(out, SENTENCE, numbers, texts);
 }
 
-// A refusal.
-pub fn put_refusal(out: &mut [u8], at: usize, numbers: &[u64], texts: &[u8]) -> usize
-    ensures { text result out.new ≡ put (text at out.old) (printed refusal_table numbers.now texts.now) }
+// A refusal: a name for a table, as callers know no table.
+pub fn put_refusal(out: &mut Output, numbers: &[u64], texts: &[u8])
+    ensures { Puts out.old out.new (printed refusal_table numbers.now texts.now) }
 {
-    face_rows::put_rows(out, at, &REFUSAL, &WORDS, numbers, texts)
-}
-
-// A position report.
-fn put_position(out: &mut [u8], at: usize, numbers: &[u64], texts: &[u8]) -> usize
-    ensures { text result out.new ≡ put (text at out.old) (printed position_table numbers.now texts.now) }
-{
-    face_rows::put_rows(out, at, &POSITION, &WORDS, numbers, texts)
-}
-
-// A static data report.
-fn put_static(out: &mut [u8], at: usize, numbers: &[u64], texts: &[u8]) -> usize
-    ensures { text result out.new ≡ put (text at out.old) (printed static_table numbers.now texts.now) }
-{
-    face_rows::put_rows(out, at, &STATIC, &WORDS, numbers, texts)
-}
-
-// An interrogation.
-fn put_asked(out: &mut [u8], at: usize, numbers: &[u64], texts: &[u8]) -> usize
-    ensures { text result out.new ≡ put (text at out.old) (printed asked_table numbers.now texts.now) }
-{
-    face_rows::put_rows(out, at, &ASKED, &WORDS, numbers, texts)
-}
-
-// No message.
-fn put_none(out: &mut [u8], at: usize, numbers: &[u64], texts: &[u8]) -> usize
-    ensures { text result out.new ≡ put (text at out.old) (printed none_table numbers.now texts.now) }
-{
-    face_rows::put_rows(out, at, &NONE, &WORDS, numbers, texts)
+    face_rows::put_rows(out, REFUSAL, numbers, texts);
 }

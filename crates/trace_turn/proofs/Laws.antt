@@ -9,7 +9,7 @@ use Rattle.reassembly.specs.declared.Record.{Record}
 use Rattle.stream.specs.declared.Input.{Input}
 use Rattle.stream.specs.declared.Taken.{Taken}
 use Rattle.stream.specs.Next.{taken_with, comes_of}
-use Rattle.trace_commands.specs.declared.Answered.{Answered}
+use Rattle.trace_turn.specs.declared.Answered.{Answered}
 use Rattle.trace_protocol.specs.Said.{said_of, kept_of}
 use Rattle.trace_turn.specs.Turn.{Replied, replied_in, command_of, replied_of, turn_by, turn_in, turn_of}
 

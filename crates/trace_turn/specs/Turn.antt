@@ -1,11 +1,13 @@
 -- The turn of program `trace`: the next command line of the block, and what it is answered with.
 use Rattle.std.specs.Prelude.{ℕ, Bool, false, List, [], ◌∷◌, ◌++◌, take}
 use Rattle.text_out.specs.Text.{Text, text, put}
+use Rattle.text_out.specs.Output.{stands}
+use Rattle.text_out.specs.declared.Output.{Output}
 use Rattle.reassembly.specs.declared.Record.{Record}
 use Rattle.stream.specs.declared.Input.{Input}
 use Rattle.stream.specs.declared.Next.{Next}
 use Rattle.stream.specs.Next.{Given, comes_of}
-use Rattle.trace_commands.specs.declared.Answered.{Answered}
+use Rattle.trace_turn.specs.declared.Answered.{Answered}
 use Rattle.trace_commands.specs.Asked.{bad}
 use Rattle.trace_protocol.specs.Said.{said_of, kept_of}
 use Rattle.trace_turn.specs.declared.Turned.{Turned}
@@ -17,6 +19,10 @@ pub record Replied : Type 0 where
 
 abbrev pub replied_in : Answered → List ℕ → Replied
 replied_in a out = record { state = a.state; out = text a.at out }
+
+-- the same before the output is handed back
+abbrev pub replied_at : Record → Output → Replied
+replied_at state out = record { state = state; out = stands out }
 
 -- a command: what is said of it, and an LF (10)
 abbrev pub command_of : Record → ℕ → List ℕ → List ℕ → Replied

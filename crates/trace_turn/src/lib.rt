@@ -2,15 +2,22 @@
 #![tactic(auto)]
 
 ghost use Rattle.std.specs.Prelude.{◌≡◌, take};
-ghost use Rattle.text_out.specs.Text.{text, put};
-ghost use Rattle.trace_turn.specs.Turn.{replied_in, command_of, long_text, replied_of, turn_in, turn_of};
+ghost use Rattle.text_out.specs.Output.{Puts};
+ghost use Rattle.trace_turn.specs.Turn.{replied_at, command_of, long_text, replied_of, turn_in, turn_of};
 
 use reassembly::Record;
 use stream::{Input, Next};
-use trace_commands::Answered;
+use text_out::Output;
 
 // A command line has at most so many bytes. A CR before the LF is one of them: no command has one.
 const MOST: u16 = 8192;
+
+// The record after a turn, and the place after what was said.
+#[derive(Clone, Copy)]
+pub struct Answered {
+    pub state: Record,
+    pub at: usize,
+}
 
 // What a turn gives back: how far the input was taken, what came, the record, and the place after what was said.
 #[derive(Clone, Copy)]
@@ -34,53 +41,45 @@ pub fn turn(
         ≡ turn_of input ended state used block.now line.old out.old }
 {
     let t = stream::take_line(input, ended, MOST, false, block, line);
-    let rest = t.input;
-    let next = t.next;
+    let mut said = Output::new(out, used);
+    let state = answer_next(state, t.next, line, &mut said);
     Turned {
-        input: rest,
-        next: next,
-        answered: answer_next(state, next, line, out, used),
+        input: t.input,
+        next: t.next,
+        answered: Answered { state, at: said.at },
     }
 }
 
 // What came is answered: a line that is too long is no command.
-fn answer_next(state: Record, next: Next, line: &[u8], out: &mut [u8], used: usize) -> Answered
-    ensures { replied_in result out.new ≡ replied_of state used next line.now out.old }
+fn answer_next(state: Record, next: Next, line: &[u8], out: &mut Output) -> Record
+    ensures same { out.new.buffer.ghost_name ≡ out.old.buffer.ghost_name }
+    ensures is { replied_at result out.new ≡ replied_of state out.old.at next line.now out.old.buffer.now }
 {
     match next {
-        Next::Line(n) => answer_line(state, line, n, out, used),
-        Next::TooLong => Answered {
-            state: state,
-            at: answer_long(out, used),
-        },
-        Next::Nothing => Answered {
-            state: state,
-            at: used,
-        },
-        Next::Room => Answered {
-            state: state,
-            at: used,
-        },
+        Next::Line(n) => answer_line(state, line, n, out),
+        Next::TooLong => {
+            answer_long(out);
+            state
+        }
+        Next::Nothing | Next::Room => state,
     }
 }
 
 // A line: its answer, and an LF.
-fn answer_line(state: Record, line: &[u8], n: usize, out: &mut [u8], used: usize) -> Answered
-    ensures { replied_in result out.new ≡ command_of state used (take n line.now) out.old }
+fn answer_line(state: Record, line: &[u8], n: usize, out: &mut Output) -> Record
+    ensures same { out.new.buffer.ghost_name ≡ out.old.buffer.ghost_name }
+    ensures is { replied_at result out.new ≡ command_of state out.old.at (take n line.now) out.old.buffer.now }
 {
     let k = text_out::up_to(n, line);
-    let a = trace_protocol::answer(state, &line[..k], out, used);
-    let after = a.state;
-    Answered {
-        state: after,
-        at: text_out::put_byte(out, a.at, b'\n'),
-    }
+    let after = trace_protocol::answer(state, &line[..k], out);
+    out.put_byte(b'\n');
+    after
 }
 
 // A line that is too long.
-fn answer_long(out: &mut [u8], used: usize) -> usize
-    ensures { text result out.new ≡ put (text used out.old) long_text }
+fn answer_long(out: &mut Output)
+    ensures { Puts out.old out.new long_text }
 {
-    let at = trace_commands::say_bad(out, used);
-    text_out::put_byte(out, at, b'\n')
+    trace_commands::say_bad(out);
+    out.put_byte(b'\n');
 }

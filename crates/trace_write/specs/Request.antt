@@ -1,5 +1,5 @@
 -- What a `write` command asks for: the words of its line. What stands in quotes is the comparing protocol's text.
-use Rattle.std.specs.Prelude.{ℕ, List, eqb, leb}
+use Rattle.std.specs.Prelude.{ℕ, List, eqb, leb, Option, Some, None}
 use Rattle.refusal.specs.Words.{pick}
 use Rattle.text_out.specs.Text.{ascii}
 use Rattle.trace_commands.specs.Line.{word_at, count_of}
@@ -8,79 +8,74 @@ use Rattle.trace_commands.specs.Numbers.{number_of}
 use Rattle.trace_commands.specs.Asked.{with_number}
 use Rattle.sentence.specs.declared.TalkerId.{TalkerId}
 use Rattle.sentence.specs.declared.AisReportType.{AisReportType}
-use Rattle.sentence.specs.declared.Channel.{Channel}
 use Rattle.writer.specs.declared.Request.{Request}
 use Rattle.trace_write.specs.declared.Asked.{Asked}
-use Rattle.trace_write.specs.declared.Talker.{Talker}
-use Rattle.trace_write.specs.declared.Report.{Report}
-use Rattle.trace_write.specs.declared.Way.{Way}
-use Rattle.trace_write.specs.declared.Wanted.{Wanted}
 
 -- a word that is to be a talker, a report type, a channel: what is asked with it
-abbrev pub with_talker : Talker → (TalkerId → Wanted) → Wanted
-with_talker (Talker.Of t) ask = ask t
-with_talker Talker.Bad ask = Wanted.Bad
+abbrev pub with_talker : Option TalkerId → (TalkerId → Option Request) → Option Request
+with_talker (Some t) ask = ask t
+with_talker None ask = None
 
-abbrev pub with_report : Report → (AisReportType → Wanted) → Wanted
-with_report (Report.Of r) ask = ask r
-with_report Report.Bad ask = Wanted.Bad
+abbrev pub with_report : Option AisReportType → (AisReportType → Option Request) → Option Request
+with_report (Some r) ask = ask r
+with_report None ask = None
 
-abbrev pub with_channel : Way → (Channel → Wanted) → Wanted
-with_channel (Way.Of c) ask = ask c
-with_channel Way.Bad ask = Wanted.Bad
+abbrev pub with_channel : Option (Option ℕ) → (Option ℕ → Option Request) → Option Request
+with_channel (Some c) ask = ask c
+with_channel None ask = None
 
-abbrev pub with_request : Wanted → (Request → Asked) → Asked
-with_request (Wanted.Of q) ask = ask q
-with_request Wanted.Bad ask = Asked.Bad
+abbrev pub with_request : Option Request → (Request → Option Asked) → Option Asked
+with_request (Some q) ask = ask q
+with_request None ask = None
 
 -- "TALKER `AB` .. `SA`, or `Unknown`"
-unfoldable pub further_talker : List ℕ → Talker
+unfoldable pub further_talker : List ℕ → Option TalkerId
 further_talker w =
-    pick (same_as w (ascii "AS")) (Talker.Of TalkerId.AS)
-    (pick (same_as w (ascii "AT")) (Talker.Of TalkerId.AT)
-    (pick (same_as w (ascii "AX")) (Talker.Of TalkerId.AX)
-    (pick (same_as w (ascii "BS")) (Talker.Of TalkerId.BS)
-    (pick (same_as w (ascii "SA")) (Talker.Of TalkerId.SA)
-    (pick (same_as w (ascii "Unknown")) (Talker.Of TalkerId.Unknown) Talker.Bad)))))
+    pick (same_as w (ascii "AS")) (Some TalkerId.AS)
+    (pick (same_as w (ascii "AT")) (Some TalkerId.AT)
+    (pick (same_as w (ascii "AX")) (Some TalkerId.AX)
+    (pick (same_as w (ascii "BS")) (Some TalkerId.BS)
+    (pick (same_as w (ascii "SA")) (Some TalkerId.SA)
+    (pick (same_as w (ascii "Unknown")) (Some TalkerId.Unknown) None)))))
 
-unfoldable pub talker_asked : List ℕ → Talker
+unfoldable pub talker_asked : List ℕ → Option TalkerId
 talker_asked w =
-    pick (same_as w (ascii "AB")) (Talker.Of TalkerId.AB)
-    (pick (same_as w (ascii "AD")) (Talker.Of TalkerId.AD)
-    (pick (same_as w (ascii "AI")) (Talker.Of TalkerId.AI)
-    (pick (same_as w (ascii "AN")) (Talker.Of TalkerId.AN)
-    (pick (same_as w (ascii "AR")) (Talker.Of TalkerId.AR) (further_talker w)))))
+    pick (same_as w (ascii "AB")) (Some TalkerId.AB)
+    (pick (same_as w (ascii "AD")) (Some TalkerId.AD)
+    (pick (same_as w (ascii "AI")) (Some TalkerId.AI)
+    (pick (same_as w (ascii "AN")) (Some TalkerId.AN)
+    (pick (same_as w (ascii "AR")) (Some TalkerId.AR) (further_talker w)))))
 
 -- "REPORT `VDM`, `VDO` or `Unknown`"
-unfoldable pub report_asked : List ℕ → Report
+unfoldable pub report_asked : List ℕ → Option AisReportType
 report_asked w =
-    pick (same_as w (ascii "VDM")) (Report.Of AisReportType.VDM)
-    (pick (same_as w (ascii "VDO")) (Report.Of AisReportType.VDO)
-    (pick (same_as w (ascii "Unknown")) (Report.Of AisReportType.Unknown) Report.Bad))
+    pick (same_as w (ascii "VDM")) (Some AisReportType.VDM)
+    (pick (same_as w (ascii "VDO")) (Some AisReportType.VDO)
+    (pick (same_as w (ascii "Unknown")) (Some AisReportType.Unknown) None))
 
 -- "CHANNEL `A`, `B`, `-` or another byte's number"
-unfoldable pub channel_asked : List ℕ → Way
+unfoldable pub channel_asked : List ℕ → Option (Option ℕ)
 channel_asked w =
-    pick (same_as w (ascii "-")) (Way.Of Channel.Absent)
-    (pick (same_as w (ascii "A")) (Way.Of (Channel.Of 65))
-    (pick (same_as w (ascii "B")) (Way.Of (Channel.Of 66))
-    (with_number (number_of w) Way.Bad (λ byte. pick (leb byte 255) (Way.Of (Channel.Of byte)) Way.Bad))))
+    pick (same_as w (ascii "-")) (Some None)
+    (pick (same_as w (ascii "A")) (Some (Some 65))
+    (pick (same_as w (ascii "B")) (Some (Some 66))
+    (with_number (number_of w) None (λ byte. pick (leb byte 255) (Some (Some byte)) None))))
 
 -- "COUNT bits"; "NUMBER 0 to 255"
-unfoldable pub request_asked : List ℕ → Wanted
+unfoldable pub request_asked : List ℕ → Option Request
 request_asked line =
-    with_number (number_of (word_at 1 line)) Wanted.Bad (λ count.
+    with_number (number_of (word_at 1 line)) None (λ count.
     with_talker (talker_asked (word_at 2 line)) (λ talker.
     with_report (report_asked (word_at 3 line)) (λ report.
     with_channel (channel_asked (word_at 4 line)) (λ channel.
-    with_number (number_of (word_at 5 line)) Wanted.Bad (λ number.
+    with_number (number_of (word_at 5 line)) None (λ number.
     pick (leb number 255)
-    (Wanted.Of (record { count = count; talker_id = talker; report_type = report; channel = channel; message_id = number }))
-    Wanted.Bad)))))
+    (Some (record { count = count; talker_id = talker; report_type = report; channel = channel; message_id = number }))
+    None)))))
 
 -- the numbers of `write COUNT TALKER REPORT CHANNEL NUMBER ROOM BYTES`, ROOM at most 1,024
-unfoldable pub write_asked : List ℕ → Asked
+unfoldable pub write_asked : List ℕ → Option Asked
 write_asked line =
     pick (eqb (count_of line) 8)
-    (with_request (request_asked line) (λ q. with_number (number_of (word_at 6 line)) Asked.Bad (λ room. pick (leb room 1024) (Asked.Of q room) Asked.Bad)))
-    Asked.Bad
+    (with_request (request_asked line) (λ q. with_number (number_of (word_at 6 line)) None (λ room. pick (leb room 1024) (Some (record { request = q; room = room })) None)))
+    None

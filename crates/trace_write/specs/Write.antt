@@ -1,5 +1,5 @@
 -- What is said to the command `write` of the comparing protocol.
-use Rattle.std.specs.Prelude.{ℕ, List, length, take}
+use Rattle.std.specs.Prelude.{ℕ, List, length, take, Option, Some, None}
 use Rattle.refusal.specs.Words.{left}
 use Rattle.text_out.specs.Text.{ascii}
 use Rattle.trace_commands.specs.Line.{word_at}
@@ -19,9 +19,9 @@ write_shown q d lent =
     fill_shown (ascii "lines ") t (left t (text_all (message_of q d)) lent)
 
 -- `write COUNT TALKER REPORT CHANNEL NUMBER ROOM BYTES`, of at most 4,096 bytes
-abbrev pub write_by : List ℕ → Asked → List ℕ
-write_by w (Asked.Of q room) = with_bytes (filled_of w 4096) bad (write_shown q (bytes_of w) (take room lent_bytes))
-write_by w Asked.Bad = bad
+abbrev pub write_by : List ℕ → Option Asked → List ℕ
+write_by w (Some a) = with_bytes (filled_of w 4096) bad (write_shown a.request (bytes_of w) (take a.room lent_bytes))
+write_by w None = bad
 
 abbrev pub write_said : List ℕ → List ℕ
 write_said line = write_by (word_at 7 line) (write_asked line)

@@ -2,206 +2,167 @@
 #![tactic(auto)]
 
 ghost use Rattle.std.specs.Prelude.{◌≡◌};
-ghost use Rattle.text_out.specs.Text.{text, put};
+ghost use Rattle.text_out.specs.Output.{Puts};
 ghost use Rattle.trace_commands.specs.Line.{word_at};
 ghost use Rattle.trace_write.specs.Write.{write_shown, write_said};
 ghost use Rattle.trace_write.specs.Request.{talker_asked, further_talker, report_asked, channel_asked, request_asked, write_asked};
 
-use sentence::{AisReportType, Channel, TalkerId};
-use trace_commands::words::{Filled, Number};
-use writer::{Request, Written};
+use sentence::{AisReportType, TalkerId};
+use text_out::Output;
+use writer::Request;
 
 // A request and ROOM of `write`.
 #[derive(Clone, Copy)]
-enum Asked {
-    Of(Request, u64),
-    Bad,
-}
-
-// What a word says, or that it is none of these.
-#[derive(Clone, Copy)]
-enum Talker {
-    Of(TalkerId),
-    Bad,
-}
-
-#[derive(Clone, Copy)]
-enum Report {
-    Of(AisReportType),
-    Bad,
-}
-
-#[derive(Clone, Copy)]
-enum Way {
-    Of(Channel),
-    Bad,
-}
-
-#[derive(Clone, Copy)]
-enum Wanted {
-    Of(Request),
-    Bad,
+struct Asked {
+    request: Request,
+    room: u64,
 }
 
 // `write COUNT TALKER REPORT CHANNEL NUMBER ROOM BYTES`: the writer, into ROOM bytes.
-pub fn say_write(line: &[u8], out: &mut [u8], at: usize) -> usize
-    ensures { text result out.new ≡ put (text at out.old) (write_said line.now) }
+pub fn say_write(line: &[u8], out: &mut Output)
+    ensures { Puts out.old out.new (write_said line.now) }
 {
-    let Asked::Of(request, room) = ask_write(line) else {
-        return trace_commands::say_bad(out, at);
+    let Some(asked) = ask_write(line) else {
+        trace_commands::say_bad(out);
+        return;
     };
     let mut payload = [0u8; 4096];
-    let Filled::Bytes(n) = trace_commands::words::bytes(line, 7, &mut payload) else {
-        return trace_commands::say_bad(out, at);
+    let Some(n) = trace_commands::words::bytes(line, 7, &mut payload) else {
+        trace_commands::say_bad(out);
+        return;
     };
-    let k = text_out::up_to(n, &payload);
     let mut lent = trace_show::lent();
-    let m = text_out::up_to(room as usize, &lent);
-    show_write(request, &payload[..k], &mut lent[..m], out, at)
+    let m = text_out::up_to(asked.room as usize, &lent);
+    show_write(asked.request, &payload[..n], &mut lent[..m], out);
 }
 
 // Writes into a lent buffer, and shows what was given back.
-fn show_write(request: Request, bits: &[u8], lent: &mut [u8], out: &mut [u8], at: usize) -> usize
-    ensures { text result out.new ≡ put (text at out.old) (write_shown request bits.now lent.old) }
+fn show_write(request: Request, bits: &[u8], lent: &mut [u8], out: &mut Output)
+    ensures { Puts out.old out.new (write_shown request bits.now lent.old) }
 {
-    let r = writer::write(request, bits, lent);
-    match r {
-        Written::Lines(n) => trace_show::put_filled(out, at, b"lines ", lent, n),
-        Written::Refused(refusal) => trace_show::put_refused(out, at, refusal, lent),
+    match writer::write(request, bits, lent) {
+        Ok(n) => trace_show::put_filled(out, b"lines ", lent, n),
+        Err(refusal) => trace_show::put_refused(out, refusal, lent),
     }
 }
 
 // The numbers of `write COUNT TALKER REPORT CHANNEL NUMBER ROOM BYTES`.
-fn ask_write(line: &[u8]) -> Asked
+#[tactic(auto, unfolding(crate::specs::Request::write_asked))]
+fn ask_write(line: &[u8]) -> Option<Asked>
     ensures { result ≡ write_asked line.now }
 {
     if trace_commands::words::count(line) != 8 {
-        return Asked::Bad;
+        return None;
     }
-    let Wanted::Of(request) = ask_request(line) else {
-        return Asked::Bad;
-    };
-    let Number::Of(room) = trace_commands::words::decimal(line, 6) else {
-        return Asked::Bad;
-    };
+    let request = ask_request(line)?;
+    let room = trace_commands::words::decimal(line, 6)?;
     if room > 1024 {
-        return Asked::Bad;
+        return None;
     }
-    Asked::Of(request, room)
+    Some(Asked { request, room })
 }
 
 // COUNT TALKER REPORT CHANNEL NUMBER.
-fn ask_request(line: &[u8]) -> Wanted
+#[tactic(auto, unfolding(crate::specs::Request::request_asked))]
+fn ask_request(line: &[u8]) -> Option<Request>
     ensures { result ≡ request_asked line.now }
 {
-    let Number::Of(count) = trace_commands::words::decimal(line, 1) else {
-        return Wanted::Bad;
-    };
-    let Talker::Of(talker) = ask_talker(line) else {
-        return Wanted::Bad;
-    };
-    let Report::Of(report) = ask_report(line) else {
-        return Wanted::Bad;
-    };
-    let Way::Of(channel) = ask_channel(line) else {
-        return Wanted::Bad;
-    };
-    let Number::Of(number) = trace_commands::words::decimal(line, 5) else {
-        return Wanted::Bad;
-    };
-    if number > 255 {
-        return Wanted::Bad;
-    }
-    Wanted::Of(Request {
+    let count = trace_commands::words::decimal(line, 1)?;
+    let talker_id = ask_talker(line)?;
+    let report_type = ask_report(line)?;
+    let channel = ask_channel(line)?;
+    let number = trace_commands::words::decimal(line, 5)?;
+    let message_id = u8::try_from(number).ok()?;
+    Some(Request {
         count: count as usize,
-        talker_id: talker,
-        report_type: report,
-        channel: channel,
-        message_id: number as u8,
+        talker_id,
+        report_type,
+        channel,
+        message_id,
     })
 }
 
-// TALKER: `AB` .. `SA`, or `Unknown`.
-fn ask_talker(line: &[u8]) -> Talker
+// TALKER: `AB` .. `SA`, or `Unknown`. Not a `match` on the word: the check parts one byte by byte, and did not prove its arms.
+#[tactic(auto, unfolding(crate::specs::Request::talker_asked))]
+fn ask_talker(line: &[u8]) -> Option<TalkerId>
     ensures { result ≡ talker_asked (word_at 2 line.now) }
 {
     if trace_commands::words::named(line, 2, b"AB") {
-        return Talker::Of(TalkerId::AB);
+        return Some(TalkerId::AB);
     }
     if trace_commands::words::named(line, 2, b"AD") {
-        return Talker::Of(TalkerId::AD);
+        return Some(TalkerId::AD);
     }
     if trace_commands::words::named(line, 2, b"AI") {
-        return Talker::Of(TalkerId::AI);
+        return Some(TalkerId::AI);
     }
     if trace_commands::words::named(line, 2, b"AN") {
-        return Talker::Of(TalkerId::AN);
+        return Some(TalkerId::AN);
     }
     if trace_commands::words::named(line, 2, b"AR") {
-        return Talker::Of(TalkerId::AR);
+        return Some(TalkerId::AR);
     }
     ask_further_talker(line)
 }
 
 // The other half of the talkers.
-fn ask_further_talker(line: &[u8]) -> Talker
+#[tactic(auto, unfolding(crate::specs::Request::further_talker))]
+fn ask_further_talker(line: &[u8]) -> Option<TalkerId>
     ensures { result ≡ further_talker (word_at 2 line.now) }
 {
     if trace_commands::words::named(line, 2, b"AS") {
-        return Talker::Of(TalkerId::AS);
+        return Some(TalkerId::AS);
     }
     if trace_commands::words::named(line, 2, b"AT") {
-        return Talker::Of(TalkerId::AT);
+        return Some(TalkerId::AT);
     }
     if trace_commands::words::named(line, 2, b"AX") {
-        return Talker::Of(TalkerId::AX);
+        return Some(TalkerId::AX);
     }
     if trace_commands::words::named(line, 2, b"BS") {
-        return Talker::Of(TalkerId::BS);
+        return Some(TalkerId::BS);
     }
     if trace_commands::words::named(line, 2, b"SA") {
-        return Talker::Of(TalkerId::SA);
+        return Some(TalkerId::SA);
     }
     if trace_commands::words::named(line, 2, b"Unknown") {
-        return Talker::Of(TalkerId::Unknown);
+        return Some(TalkerId::Unknown);
     }
-    Talker::Bad
+    None
 }
 
-// REPORT: `VDM`, `VDO` or `Unknown`.
-fn ask_report(line: &[u8]) -> Report
+// REPORT: `VDM`, `VDO` or `Unknown`; by tests of names, as a talker is.
+#[tactic(auto, unfolding(crate::specs::Request::report_asked))]
+fn ask_report(line: &[u8]) -> Option<AisReportType>
     ensures { result ≡ report_asked (word_at 3 line.now) }
 {
     if trace_commands::words::named(line, 3, b"VDM") {
-        return Report::Of(AisReportType::VDM);
+        return Some(AisReportType::VDM);
     }
     if trace_commands::words::named(line, 3, b"VDO") {
-        return Report::Of(AisReportType::VDO);
+        return Some(AisReportType::VDO);
     }
     if trace_commands::words::named(line, 3, b"Unknown") {
-        return Report::Of(AisReportType::Unknown);
+        return Some(AisReportType::Unknown);
     }
-    Report::Bad
+    None
 }
 
 // CHANNEL: `A`, `B`, `-` or another byte's number.
-fn ask_channel(line: &[u8]) -> Way
+#[tactic(auto, unfolding(crate::specs::Request::channel_asked))]
+fn ask_channel(line: &[u8]) -> Option<Option<u8>>
     ensures { result ≡ channel_asked (word_at 4 line.now) }
 {
     if trace_commands::words::named(line, 4, b"-") {
-        return Way::Of(Channel::Absent);
+        return Some(None);
     }
     if trace_commands::words::named(line, 4, b"A") {
-        return Way::Of(Channel::Of(65));
+        return Some(Some(65));
     }
     if trace_commands::words::named(line, 4, b"B") {
-        return Way::Of(Channel::Of(66));
+        return Some(Some(66));
     }
-    let Number::Of(byte) = trace_commands::words::decimal(line, 4) else {
-        return Way::Bad;
-    };
-    if byte > 255 {
-        return Way::Bad;
-    }
-    Way::Of(Channel::Of(byte as u8))
+    let number = trace_commands::words::decimal(line, 4)?;
+    let byte = u8::try_from(number).ok()?;
+    Some(Some(byte))
 }

@@ -2,6 +2,7 @@
 use mathlib.Core.Path.{◌≡◌, sym, ◌∙◌}
 use mathlib.Core.Bool.{true, false}
 use mathlib.Core.List.{List, []}
+use Rattle.std.specs.Prelude.{Result}
 use Prim.Native.Nat.{ℕ, ◌≤◌, ◌<◌}
 use borrow.Author.Tests.{lt-ltb, le-ltb}
 use lib.ListN.{length}
@@ -9,7 +10,7 @@ use Rattle.refusal.specs.Words.{Told, taken, refused, left}
 use Rattle.writer.specs.Message.{text_all}
 use Rattle.writer.specs.Writer.{written_in, outside, message_of, answer_of, Writes}
 use Rattle.writer.specs.declared.Request.{Request}
-use Rattle.writer.specs.declared.Written.{Written}
+use Rattle.refusal.specs.declared.Refusal.{Refusal}
 
 module _ (q : Request) (d : List ℕ) where
   module _ (room : ℕ) where
@@ -25,6 +26,6 @@ module _ (q : Request) (d : List ℕ) where
     unfolding answer_of
     says-taken b h = rw (b, le-ltb room (length (text_all (message_of q d))) h)
 
-  pub answered-by : (out : List ℕ) {r : Written} {out' : List ℕ} (t : Told ℕ) → answer_of q d (length out) ≡ t → written_in r ≡ t
+  pub answered-by : (out : List ℕ) {r : Result ℕ Refusal} {out' : List ℕ} (t : Told ℕ) → answer_of q d (length out) ≡ t → written_in r ≡ t
       → out' ≡ left t (text_all (message_of q d)) out → Writes q d out r out'
   answered-by out t e p l = record { answers = p ∙ sym e; leaves = rw e l }

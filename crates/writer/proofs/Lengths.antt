@@ -7,9 +7,9 @@ use native.Mathlib.Nat.{suc-mul, mul-le-mul}
 use native.Mathlib.Omega.{arith}
 use lib.Dec.{eqb}
 use lib.ListN.{length, drop, length-append, length-take, length-drop}
+use Rattle.std.specs.Prelude.{Some, None}
 use Rattle.refusal.specs.Words.{pick}
 use Rattle.sentence.specs.Written.{id_text, channel_text, body_text, line_text}
-use Rattle.sentence.specs.declared.Number.{Number}
 use Rattle.sentence.proofs.ReadBack.{text-length, text-short}
 use Rattle.writer.specs.Message.{chars_in, Message, lines_in, parts_of, text_of, text_from, text_all, Sendable}
 use Rattle.writer.specs.Writer.{outside, message_of}
@@ -18,7 +18,7 @@ use Rattle.writer.proofs.Armoured.{length-armoured}
 use Rattle.writer.proofs.Sendable.{sendable, few_lines, writable}
 use Rattle.writer.proofs.Lines.{lines_are}
 
-id-length : (b : Bool) (n : ℕ) → 20 + length (id_text (pick b Number.Absent (Number.Of n))) ≡ pick b 20 21
+id-length : (b : Bool) (n : ℕ) → 20 + length (id_text (pick b None (Some n))) ≡ pick b 20 21
 id-length true n = refl
 id-length false n = refl
 

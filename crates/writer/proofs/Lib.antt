@@ -1,10 +1,8 @@
 pub mod Armoured
 pub mod Sendable
-pub mod Tests
 pub mod Characters
 pub mod Lines
 pub mod Lengths
 pub mod Placed
 pub mod Answers
 pub mod Unique
-pub mod Letters

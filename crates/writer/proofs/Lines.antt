@@ -7,10 +7,10 @@ use borrow.Author.Tests.{eq-eqb, ne_eqb}
 use lib.Dec.{eqb}
 use lib.ListN.{length, take, drop, length-drop}
 use lib.Seq.{slice, length-take-le, take_all, take-add, drop_at}
+use Rattle.std.specs.Prelude.{Some, None}
 use Rattle.refusal.specs.Words.{pick}
 use Rattle.scan.specs.Scan.{comma, digit}
 use Rattle.sentence.specs.Written.{Parts, talker_text, report_text, id_text, channel_text, body_text}
-use Rattle.sentence.specs.declared.Number.{Number}
 use Rattle.text_out.specs.Text.{Text, put}
 use Rattle.text_out.proofs.Laws.{put-put, put_then, put-nothing}
 use Rattle.writer.specs.Message.{chars_in, fill_in, armoured, Message, lines_in, parts_of, text_of, text_from}
@@ -50,7 +50,7 @@ module _ (q : Request) (k i : ℕ) where
     report = q.report_type;
     total = k;
     number = i;
-    id = pick (eqb k 1) Number.Absent (Number.Of q.message_id);
+    id = pick (eqb k 1) None (Some q.message_id);
     channel = q.channel;
     payload = payload;
     fill = fill;

@@ -7,11 +7,10 @@ use native.Mathlib.Omega.{arith}
 use borrow.Author.Tests.{ltb-false, leb-true, eqb-false, not-false}
 use lib.Dec.{ltb, leb, eqb}
 use lib.ListN.{length, take, drop, length-take, length-drop}
+use Rattle.std.specs.Prelude.{Option, Some, None}
 use Rattle.refusal.specs.Words.{pick, within, is_empty}
 use Rattle.scan.specs.Scan.{All}
 use Rattle.sentence.specs.Written.{talker_text, report_text, AOrB, OneDigit, Writable}
-use Rattle.sentence.specs.declared.Channel.{Channel}
-use Rattle.sentence.specs.declared.Number.{Number}
 use Rattle.writer.specs.Message.{Message, Sendable, lines_in, parts_of}
 use Rattle.writer.specs.Writer.{bad_count, other_channel, outside, message_of}
 use Rattle.writer.specs.declared.Request.{Request}
@@ -26,9 +25,9 @@ range_in : (lo hi b : ℕ) → within lo hi b ≡ true → (lo ≤ b) × (b ≤ 
 unfolding within
 range_in lo hi b e = let t = (and-eq-true_iff (leb lo b) (leb b hi)).0 e in (leb-true lo b t.0, leb-true b hi t.1)
 
-channel_in_lem : (c : Channel) → other_channel c ≡ false → AOrB c
-channel_in_lem Channel.Absent e = tt
-channel_in_lem (Channel.Of b) e = range_in 65 66 b (not-false (within 65 66 b) e)
+channel_in_lem : (c : Option ℕ) → other_channel c ≡ false → AOrB c
+channel_in_lem None e = tt
+channel_in_lem (Some b) e = range_in 65 66 b (not-false (within 65 66 b) e)
 
 module _ (q : Request) (d : List ℕ) (inside : outside q d ≡ false) where
   pub record Limits : Type 0 where
@@ -78,7 +77,7 @@ all_take P zero xs h = tt
 all_take P (suc n) [] h = tt
 all_take P (suc n) (x ∷ xs) h = (h.0, all_take P n xs h.1)
 
-one-digit : (b : Bool) (n : ℕ) → n ≤ 9 → OneDigit (pick b Number.Absent (Number.Of n))
+one-digit : (b : Bool) (n : ℕ) → n ≤ 9 → OneDigit (pick b None (Some n))
 one-digit true n h = tt
 one-digit false n h = h
 

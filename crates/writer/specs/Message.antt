@@ -1,5 +1,5 @@
 -- A message to be sent, and the lines that the writer cuts it into: document 01, 'The writer'. What stands in quotes is its text.
-use Rattle.std.specs.Prelude.{ℕ, zero, suc, ◌+◌, ◌-◌, ◌*◌, ◌/◌, ◌≤◌, ◌<◌, ◌≡◌, List, [], ◌++◌, map, length, take, drop, eqb}
+use Rattle.std.specs.Prelude.{ℕ, zero, suc, ◌+◌, ◌-◌, ◌*◌, ◌/◌, ◌≤◌, ◌<◌, ◌≡◌, List, [], ◌++◌, map, length, take, drop, eqb, Option, Some, None}
 use Rattle.refusal.specs.Words.{pick}
 use Rattle.parsers.specs.Bits.{bit_at, cut, pack}
 use Rattle.armour.specs.Armour.{letter}
@@ -7,8 +7,6 @@ use Rattle.scan.specs.Scan.{All}
 use Rattle.sentence.specs.Written.{Parts, line_text, AOrB}
 use Rattle.sentence.specs.declared.TalkerId.{TalkerId}
 use Rattle.sentence.specs.declared.AisReportType.{AisReportType}
-use Rattle.sentence.specs.declared.Number.{Number}
-use Rattle.sentence.specs.declared.Channel.{Channel}
 
 -- how many characters n bits take, six bits each
 abbrev pub chars_in : ℕ → ℕ
@@ -26,7 +24,7 @@ armoured d n = map letter (pack 6 (chars_in n) (cut n (bit_at 8 d)))
 pub record Message : Type 0 where
   pub talker : TalkerId
   pub report : AisReportType
-  pub channel : Channel
+  pub channel : Option ℕ
   pub number : ℕ
   pub payload : List ℕ
   pub fill : ℕ
@@ -42,7 +40,7 @@ parts_of m i = record {
   report = m.report;
   total = lines_in m;
   number = i;
-  id = pick (eqb (lines_in m) 1) Number.Absent (Number.Of m.number);
+  id = pick (eqb (lines_in m) 1) None (Some m.number);
   channel = m.channel;
   payload = take 60 (drop (60 * (i - 1)) m.payload);
   fill = pick (eqb i (lines_in m)) m.fill 0;

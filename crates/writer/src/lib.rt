@@ -9,13 +9,13 @@ ghost use Rattle.refusal.specs.Words.{pick};
 ghost use Rattle.armour.specs.Armour.{letter};
 ghost use Rattle.scan.specs.Scan.{comma, digit};
 ghost use Rattle.sentence.specs.Written.{id_text, channel_text, body_text};
-ghost use Rattle.sentence.specs.declared.Number.{Number};
-ghost use Rattle.text_out.specs.Text.{text, put};
+ghost use Rattle.text_out.specs.Output.{Puts};
 ghost use Rattle.writer.specs.Message.{chars_in, armoured, lines_in, parts_of, text_of, text_all};
 ghost use Rattle.writer.specs.Writer.{bad_count, other_channel, outside, message_of, Writes};
 
 use refusal::Refusal;
-use sentence::{AisReportType, Channel, TalkerId};
+use sentence::{AisReportType, TalkerId};
+use text_out::Output;
 
 // What is asked for, beside the bytes that hold the bits: how many bits they are, and what each line says.
 #[derive(Clone, Copy)]
@@ -23,76 +23,65 @@ pub struct Request {
     pub count: usize,
     pub talker_id: TalkerId,
     pub report_type: AisReportType,
-    pub channel: Channel,
+    pub channel: Option<u8>,
     pub message_id: u8,
 }
 
-// How many bytes stand first in the output, or why there are none.
+// A request within the writer's limits, with the bytes that hold its bits.
 #[derive(Clone, Copy)]
-pub enum Written {
-    Lines(usize),
-    Refused(Refusal),
+struct Accepted<'a> {
+    request: Request,
+    bits: &'a [u8],
+    ghost inside: { outside request bits.now ≡ false },
 }
 
-// Writes the lines of a message into `out`: refusals 13 and 12, in that order.
-pub fn write(request: Request, bits: &[u8], out: &mut [u8]) -> Written
+// Writes the lines of a message into `out`, and tells how many bytes they are: refusals 13 and 12, in that order.
+pub fn write(request: Request, bits: &[u8], out: &mut [u8]) -> Result<usize, Refusal>
     ensures { Writes request bits.now out.old result out.new }
 {
     if is_outside(request, bits) {
-        return Written::Refused(Refusal::Request);
+        return Err(Refusal::Request);
     }
-    let channel = request.channel;
+    let accepted = Accepted { request, bits };
     let lines = lines_in(request.count);
     let chars = (request.count + 5) / 6;
-    let need = lines * beside(lines, channel) + chars;
+    let need = lines * beside(lines, request.channel) + chars;
     if out.len() < need {
-        return Written::Refused(Refusal::Room);
+        return Err(Refusal::Room);
     }
-    Written::Lines(put_lines(out, request, bits))
+    let mut lent = Output::new(out, 0);
+    put_lines(&mut lent, accepted);
+    Ok(lent.at)
 }
 
 // Whether a request is outside the writer's limits.
+#[tactic(auto, unfolding(crate::specs::Writer::outside))]
 fn is_outside(request: Request, bits: &[u8]) -> bool
     ensures { result ≡ outside request bits.now }
 {
-    if bad_count(request.count, bits) {
-        return true;
-    }
-    let talker = request.talker_id;
-    let report = request.report_type;
-    let channel = request.channel;
-    if written_line::unknown_talker(talker) {
-        return true;
-    }
-    if written_line::unknown_report(report) {
-        return true;
-    }
-    if other_channel(channel) {
-        return true;
-    }
-    9 < request.message_id
+    bad_count(request.count, bits)
+        || written_line::unknown_talker(request.talker_id)
+        || written_line::unknown_report(request.report_type)
+        || other_channel(request.channel)
+        || 9 < request.message_id
 }
 
 // Bits 1 to 2304, in enough bytes, or not.
+#[tactic(auto, unfolding(refusal::specs::Words::within))]
 fn bad_count(count: usize, bits: &[u8]) -> bool
     ensures { result ≡ bad_count count bits.now }
 {
-    if count < 1 {
-        return true;
-    }
-    if 2304 < count {
-        return true;
-    }
-    bits.len() < (count + 7) / 8
+    count < 1 || 2304 < count || bits.len() < (count + 7) / 8
 }
 
 // A channel that is neither A nor B nor none.
-fn other_channel(channel: Channel) -> bool
+#[tactic(auto, unfolding(refusal::specs::Words::within))]
+fn other_channel(channel: Option<u8>) -> bool
     ensures { result ≡ other_channel channel }
 {
     match channel {
-        Channel::Absent => false,
-        Channel::Of(b) => b < 65 || 66 < b,
+        None => false,
+        Some(b) => b < 65 || 66 < b,
     }
 }
 
@@ -105,54 +94,54 @@ fn lines_in(count: usize) -> usize
 }
 
 // How many bytes a line has beside its payload.
-fn beside(lines: usize, channel: Channel) -> usize
+fn beside(lines: usize, channel: Option<u8>) -> usize
     ensures { result ≡ pick (eqb lines 1) 20 21 + length (channel_text channel) }
 {
     if lines == 1 {
         return match channel {
-            Channel::Absent => 20,
-            Channel::Of(_) => 21,
+            None => 20,
+            Some(_) => 21,
         };
     }
     match channel {
-        Channel::Absent => 21,
-        Channel::Of(_) => 22,
+        None => 21,
+        Some(_) => 22,
     }
 }
 
-// All lines, from the start of `out`.
-fn put_lines(out: &mut [u8], request: Request, bits: &[u8]) -> usize
-    requires { outside request bits.now ≡ false }
-    ensures { text result out.new ≡ put (text 0 out.old) (text_all (message_of request bits.now)) }
+// All lines.
+fn put_lines(out: &mut Output, asked: Accepted)
+    ensures { Puts out.old out.new (text_all (message_of asked.entry.request asked.entry.bits.now)) }
 {
-    let lines = lines_in(request.count);
-    let mut p = 0;
-    let mut i = 1;
-    while i <= lines {
-        p = put_line(out, p, request, bits, i);
-        i += 1;
+    let lines = lines_in(asked.request.count);
+    for i in 1..lines + 1 {
+        put_line(out, asked, i);
     }
-    p
 }
 
 // Line i: the checksum is of the bytes between the start mark and the star.
-fn put_line(out: &mut [u8], at: usize, request: Request, bits: &[u8], i: usize) -> usize
-    requires { (outside request bits.now ≡ false) × ((1 ≤ i) × (i ≤ lines_in (message_of request bits.now))) }
-    ensures { text result out.new ≡ put (text at out.old) (text_of (message_of request bits.now) i) }
+fn put_line(out: &mut Output, asked: Accepted, i: usize)
+    requires { (1 ≤ i) × (i ≤ lines_in (message_of asked.request asked.bits.now)) }
+    ensures { Puts out.old out.new (text_of (message_of asked.entry.request asked.entry.bits.now) i) }
 {
-    let mut body = [0u8; 80];
-    let n = put_body(&mut body, request, bits, i);
-    let sum = scan::exclusive_or(&body[..n]);
-    let a = text_out::put_byte(out, at, b'!');
-    let b = text_out::put_bytes(out, a, &body[..n]);
-    written_line::put_close(out, b, sum)
+    let mut bytes = [0u8; 80];
+    let mut body = Output::new(&mut bytes, 0);
+    put_body(&mut body, asked, i);
+    let n = body.at;
+    let line = &body.buffer[..n];
+    let sum = scan::exclusive_or(line);
+    out.put_byte(b'!');
+    out.put_bytes(line);
+    written_line::put_close(out, sum);
 }
 
-// What stands between the start mark and the star of line i, from the start of `out`.
-fn put_body(out: &mut [u8], request: Request, bits: &[u8], i: usize) -> usize
-    requires { (outside request bits.now ≡ false) × ((1 ≤ i) × (i ≤ lines_in (message_of request bits.now))) }
-    ensures { text result out.new ≡ put (text 0 out.old) (body_text (parts_of (message_of request bits.now) i)) }
+// What stands between the start mark and the star of line i.
+fn put_body(out: &mut Output, asked: Accepted, i: usize)
+    requires { (1 ≤ i) × (i ≤ lines_in (message_of asked.request asked.bits.now)) }
+    ensures { Puts out.old out.new (body_text (parts_of (message_of asked.entry.request asked.entry.bits.now) i)) }
 {
+    let request = asked.request;
+    let bits = asked.bits;
     let count = request.count;
     let talker = request.talker_id;
     let report = request.report_type;
@@ -161,59 +150,47 @@ fn put_body(out: &mut [u8], request: Request, bits: &[u8], i: usize) -> usize
     let chars = (count + 5) / 6;
     let fill = chars * 6 - count;
     let from = 60 * (i - 1);
-    let a = written_line::put_address(out, 0, talker, report);
-    let b = put_numbers(out, a, lines, i, request.message_id);
-    let c = written_line::put_channel(out, b, channel);
+    written_line::put_address(out, talker, report);
+    put_numbers(out, lines, i, request.message_id);
+    written_line::put_channel(out, channel);
     if i < lines {
-        let d = put_payload(out, c, bits, count, from, from + 60);
-        return put_fill(out, d, 0);
+        put_payload(out, bits, count, from, from + 60);
+        put_fill(out, 0);
+    } else {
+        put_payload(out, bits, count, from, chars);
+        put_fill(out, fill);
     }
-    let d = put_payload(out, c, bits, count, from, chars);
-    put_fill(out, d, fill)
 }
 
 // How many lines there are, which of them this is, and the message number, which a single line leaves empty.
-fn put_numbers(out: &mut [u8], at: usize, total: usize, number: usize, id: u8) -> usize
+fn put_numbers(out: &mut Output, total: usize, number: usize, id: u8)
     requires { (total ≤ 9) × ((number ≤ 9) × (id ≤ 9)) }
-    ensures { text result out.new
-        ≡ put (text at out.old) (comma ∷ digit total ∷ comma ∷ digit number ∷ comma ∷ id_text (pick (eqb total 1) Number.Absent (Number.Of id))) }
+    ensures { Puts out.old out.new (comma ∷ digit total ∷ comma ∷ digit number ∷ comma ∷ id_text (pick (eqb total 1) None (Some id))) }
 {
     let s = [b',', b'0' + total as u8, b',', b'0' + number as u8, b','];
-    let a = text_out::put_bytes(out, at, &s);
-    if total == 1 {
-        return a;
+    out.put_bytes(&s);
+    if total != 1 {
+        out.put_byte(b'0' + id);
     }
-    text_out::put_byte(out, a, b'0' + id)
 }
 
 // The payload's characters from place `from` up to place `to`.
-fn put_payload(
-    out: &mut [u8],
-    at: usize,
-    bits: &[u8],
-    count: usize,
-    from: usize,
-    to: usize,
-) -> usize
+fn put_payload(out: &mut Output, bits: &[u8], count: usize, from: usize, to: usize)
     requires { (count ≤ 2304) × ((from ≤ to) × (to ≤ chars_in count)) }
-    ensures { text result out.new ≡ put (text at out.old) (slice from to (armoured bits.now count)) }
+    ensures { Puts out.old out.new (slice from to (armoured bits.now count)) }
 {
-    let mut p = at;
-    let mut i = from;
-    while i < to {
-        p = text_out::put_byte(out, p, char_at(bits, count, i));
-        i += 1;
+    for i in from..to {
+        out.put_byte(char_at(bits, count, i));
     }
-    p
 }
 
 // The fill, after a comma.
-fn put_fill(out: &mut [u8], at: usize, fill: usize) -> usize
+fn put_fill(out: &mut Output, fill: usize)
     requires { fill ≤ 9 }
-    ensures { text result out.new ≡ put (text at out.old) (comma ∷ digit fill ∷ []) }
+    ensures { Puts out.old out.new (comma ∷ digit fill ∷ []) }
 {
     let s = [b',', b'0' + fill as u8];
-    text_out::put_bytes(out, at, &s)
+    out.put_bytes(&s);
 }
 
 // Character i of the payload: six bits, of which those that the caller did not count are 0.

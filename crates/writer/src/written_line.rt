@@ -1,102 +1,80 @@
 // What a line of ours is made of, beside its numbers and its payload: talker and report type, channel, checksum and line end.
-ghost use Rattle.std.specs.Prelude.{◌≡◌, [], ◌∷◌, ◌++◌, ◌<◌, eqb, length, get_or};
-ghost use Rattle.refusal.specs.Words.{pick, is_empty, over};
-ghost use Rattle.scan.specs.Scan.{comma, capital};
+ghost use Rattle.std.specs.Prelude.{◌≡◌, [], ◌∷◌, ◌++◌};
+ghost use Rattle.refusal.specs.Words.{is_empty};
+ghost use Rattle.scan.specs.Scan.{comma};
 ghost use Rattle.sentence.specs.Written.{talker_text, report_text, channel_text, ending};
-ghost use Rattle.text_out.specs.Text.{text, put};
+ghost use Rattle.text_out.specs.Output.{Puts};
 
-use sentence::{AisReportType, Channel, TalkerId};
+use sentence::{AisReportType, TalkerId};
+use text_out::Output;
 
 // Whether a talker has no letters.
 pub fn unknown_talker(talker: TalkerId) -> bool
     ensures { result ≡ is_empty (talker_text talker) }
 {
-    let s = talker_letters(talker);
-    s[0] == 0
+    talker_letters(talker).is_empty()
 }
 
 // Whether a report type has no letters.
 pub fn unknown_report(report: AisReportType) -> bool
     ensures { result ≡ is_empty (report_text report) }
 {
-    let s = report_letters(report);
-    s[0] == 0
+    report_letters(report).is_empty()
 }
 
 // Talker and report type.
-pub fn put_address(out: &mut [u8], at: usize, talker: TalkerId, report: AisReportType) -> usize
-    ensures { text result out.new ≡ put (text at out.old) (talker_text talker ++ report_text report) }
+pub fn put_address(out: &mut Output, talker: TalkerId, report: AisReportType)
+    ensures { Puts out.old out.new (talker_text talker ++ report_text report) }
 {
-    let s = talker_letters(talker);
-    let t = report_letters(report);
-    let a = put_letters(out, at, &s);
-    put_letters(out, a, &t)
+    out.put_bytes(talker_letters(talker));
+    out.put_bytes(report_letters(report));
 }
 
 // The channel, between commas.
-pub fn put_channel(out: &mut [u8], at: usize, channel: Channel) -> usize
-    ensures { text result out.new ≡ put (text at out.old) (comma ∷ (channel_text channel ++ comma ∷ [])) }
+pub fn put_channel(out: &mut Output, channel: Option<u8>)
+    ensures { Puts out.old out.new (comma ∷ (channel_text channel ++ comma ∷ [])) }
 {
-    if let Channel::Of(b) = channel {
-        let s = [b',', b, b','];
-        return text_out::put_bytes(out, at, &s);
+    match channel {
+        Some(b) => out.put_bytes(&[b',', b, b',']),
+        None => out.put_bytes(b",,"),
     }
-    text_out::put_bytes(out, at, b",,")
 }
 
 // What ends a line: the star, the checksum in two capital hex digits, CR LF.
-pub fn put_close(out: &mut [u8], at: usize, sum: u8) -> usize
-    ensures { text result out.new ≡ put (text at out.old) (ending sum) }
+pub fn put_close(out: &mut Output, sum: u8)
+    ensures { Puts out.old out.new (ending sum) }
 {
-    let s = [b'*', hex_digit(sum / 16), hex_digit(sum % 16), 13, 10];
-    text_out::put_bytes(out, at, &s)
+    let high = scan::capital_digit(sum / 16);
+    let low = scan::capital_digit(sum);
+    out.put_bytes(&[b'*', high, low, 13, 10]);
 }
 
-// A talker's letters; zeros for the unknown one, which has none.
-fn talker_letters(talker: TalkerId) -> [u8; 2]
-    ensures { result ≡ over (talker_text talker) (0 ∷ 0 ∷ []) }
+// A talker's letters; the unknown one has none.
+fn talker_letters(talker: TalkerId) -> &'static [u8]
+    ensures { result.now ≡ talker_text talker }
 {
     match talker {
-        TalkerId::AB => [b'A', b'B'],
-        TalkerId::AD => [b'A', b'D'],
-        TalkerId::AI => [b'A', b'I'],
-        TalkerId::AN => [b'A', b'N'],
-        TalkerId::AR => [b'A', b'R'],
-        TalkerId::AS => [b'A', b'S'],
-        TalkerId::AT => [b'A', b'T'],
-        TalkerId::AX => [b'A', b'X'],
-        TalkerId::BS => [b'B', b'S'],
-        TalkerId::SA => [b'S', b'A'],
-        TalkerId::Unknown => [0, 0],
+        TalkerId::AB => b"AB",
+        TalkerId::AD => b"AD",
+        TalkerId::AI => b"AI",
+        TalkerId::AN => b"AN",
+        TalkerId::AR => b"AR",
+        TalkerId::AS => b"AS",
+        TalkerId::AT => b"AT",
+        TalkerId::AX => b"AX",
+        TalkerId::BS => b"BS",
+        TalkerId::SA => b"SA",
+        TalkerId::Unknown => b"",
     }
 }
 
-// A report type's letters; zeros for the unknown one, which has none.
-fn report_letters(report: AisReportType) -> [u8; 3]
-    ensures { result ≡ over (report_text report) (0 ∷ 0 ∷ 0 ∷ []) }
+// A report type's letters; the unknown one has none.
+fn report_letters(report: AisReportType) -> &'static [u8]
+    ensures { result.now ≡ report_text report }
 {
     match report {
-        AisReportType::VDM => [b'V', b'D', b'M'],
-        AisReportType::VDO => [b'V', b'D', b'O'],
-        AisReportType::Unknown => [0, 0, 0],
+        AisReportType::VDM => b"VDM",
+        AisReportType::VDO => b"VDO",
+        AisReportType::Unknown => b"",
     }
-}
-
-// Letters, or nothing for zeros.
-fn put_letters(out: &mut [u8], at: usize, s: &[u8]) -> usize
-    requires { 0 < length s.now }
-    ensures { text result out.new ≡ put (text at out.old) (pick (eqb (get_or s.now 0 0) 0) [] s.now) }
-{
-    if s[0] == 0 {
-        return at;
-    }
-    text_out::put_bytes(out, at, s)
-}
-
-// The capital hex digit of a number below 16.
-fn hex_digit(d: u8) -> u8
-    requires { d < 16 }
-    ensures { result ≡ capital d }
-{
-    if d < 10 { b'0' + d } else { b'A' + (d - 10) }
 }

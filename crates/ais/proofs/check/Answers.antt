@@ -16,14 +16,14 @@ returns-then-line-gt1024 c = check_long c.args.line.now c.args.room c.args.bit_r
 pub returns-then-expected-found : goal.returns-then-expected-found
 returns-then-expected-found c =
     check-sum c.args.line.now c.args.room c.args.bit_room (omega arith) (omega arith) (omega arith) _
-    (sym c.parse_nmea_sentence.ensures ∙ c.in-Sentence.is) c.if-expected-found.true
+    (sym c.parse_nmea_sentence.ensures ∙ c.in-Ok.is) c.if-expected-found.true
 
-pub returns-in-Bad : goal.returns-in-Bad
-returns-in-Bad c =
+pub returns-in_default : goal.returns-in_default
+returns-in_default c =
     check_broken c.args.line.now c.args.room c.args.bit_room (omega arith) (omega arith) (omega arith) _
-    (sym c.parse_nmea_sentence.ensures ∙ c.in-Bad.is)
+    (sym c.parse_nmea_sentence.ensures ∙ c.in_default.is)
 
-pub returns-else-expected-found : goal.returns-else-expected-found
-returns-else-expected-found c =
+pub returns : goal.returns
+returns c =
     check-taken c.args.line.now c.args.room c.args.bit_room (omega arith) (omega arith) (omega arith) _
-    (sym c.parse_nmea_sentence.ensures ∙ c.in-Sentence.is) c.if-expected-found.false
+    (sym c.parse_nmea_sentence.ensures ∙ c.in-Ok.is) c.if-expected-found.false

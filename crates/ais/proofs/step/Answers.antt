@@ -7,18 +7,18 @@ use Rattle.ais.proofs.Received.{receiving_line}
 use borrow.Author.Rules.{rules}
 use Rattle.ais.proofs.step.Goals as goal
 
-pub returns-in-Refused : goal.returns-in-Refused
-returns-in-Refused c =
+pub returns-in-Err : goal.returns-in-Err
+returns-in-Err c =
     rw c.refused.ensures
     (line_refused c.args.state c.args.line.now c.args.decode c.args.payload.now c.args.bits.now _ _
-    (sym c.check.ensures ∙ ap checked_in c.in-Refused.is))
+    (sym c.check.ensures ∙ ap checked_in c.in-Err.is))
 
 pub slice_bounds-hand-count : goal.slice_bounds-hand-count
 slice_bounds-hand-count c =
     omega (
       arith,
       (its-sentence _ _ (its-parsed c.args.state c.args.line.now c.args.decode c.args.payload.now c.args.bits.now _
-          (sym c.check.ensures ∙ ap checked_in c.in-Sentence.is))).some-payload,
+          (sym c.check.ensures ∙ ap checked_in c.in-Ok.is))).some-payload,
     )
 
 pub slice_bounds-hand-start : goal.slice_bounds-hand-start
@@ -26,7 +26,7 @@ slice_bounds-hand-start c =
     omega (
       arith,
       (its-sentence _ _ (its-parsed c.args.state c.args.line.now c.args.decode c.args.payload.now c.args.bits.now _
-          (sym c.check.ensures ∙ ap checked_in c.in-Sentence.is))).some-payload,
+          (sym c.check.ensures ∙ ap checked_in c.in-Ok.is))).some-payload,
     )
 
 pub slice_bounds-hand-end : goal.slice_bounds-hand-end
@@ -34,12 +34,12 @@ slice_bounds-hand-end c =
     omega (
       arith,
       (its-sentence _ _ (its-parsed c.args.state c.args.line.now c.args.decode c.args.payload.now c.args.bits.now _
-          (sym c.check.ensures ∙ ap checked_in c.in-Sentence.is))).payload-inside,
+          (sym c.check.ensures ∙ ap checked_in c.in-Ok.is))).payload-inside,
     )
 
-pub returns-in-Sentence : goal.returns-in-Sentence
-returns-in-Sentence c =
-    let e = (sym c.check.ensures ∙ ap checked_in c.in-Sentence.is) in
+pub returns-in-Ok : goal.returns-in-Ok
+returns-in-Ok c =
+    let e = (sym c.check.ensures ∙ ap checked_in c.in-Ok.is) in
     c.hand.ensures
     ∙ receiving_line c.args.state _ _ c.args.decode c.args.payload.now c.args.bits.now (search rules)
     (its_large c.args.state c.args.line.now c.args.decode c.args.payload.now c.args.bits.now _ e)

@@ -15,12 +15,12 @@ returns-then-bits-lt288 c = decoded_12_bits c.args.s c.args.handed.now c.args.pa
 pub returns-then-handed-gt384 : goal.returns-then-handed-gt384
 returns-then-handed-gt384 c = decoded_6 c.args.s c.args.handed.now c.args.payload.now _ c.args.bits.now (omega arith) (omega arith) (omega arith) c.refuse-then-handed-gt384.ensures
 
-pub returns-in-Refused : goal.returns-in-Refused
-returns-in-Refused c =
+pub returns-in-Err : goal.returns-in-Err
+returns-in-Err c =
     decoded_refused c.args.s c.args.handed.now c.args.payload.now _ c.args.bits.now c.if-payload-lt384.false c.if-bits-lt288.false
     c.if-handed-gt384.false c.unarmor.result _ _ refl c.unarmor.ensures _
-    c.in-Refused.is
-    c.refuse-in-Refused.ensures
+    c.in-Err.is
+    c.refuse-in-Err.ensures
 
 pub slice_bounds-scratch-end : goal.slice_bounds-scratch-end
 slice_bounds-scratch-end c =
@@ -28,7 +28,7 @@ slice_bounds-scratch-end c =
       arith,
       c.unarmor.auto.out,
       unarmored-fits c.args.handed.now c.args.s.fill_bit_count c.if-handed-gt384.false c.unarmor.result _ _ refl
-          c.unarmor.ensures _ c.in-Bytes.is,
+          c.unarmor.ensures _ c.in-Ok.is,
     )
 
 pub slice_bounds-parsed-end : goal.slice_bounds-parsed-end
@@ -37,21 +37,21 @@ slice_bounds-parsed-end c =
       arith,
       c.unarmor.auto.out,
       unarmored-fits c.args.handed.now c.args.s.fill_bit_count c.if-handed-gt384.false c.unarmor.result _ _ refl
-          c.unarmor.ensures _ c.in-Bytes.is,
+          c.unarmor.ensures _ c.in-Ok.is,
     )))
 
 pub parsed-requires : goal.parsed-requires
 parsed-requires c =
-    let k : c.in-Bytes.n ≤ 288 = unarmored-fits c.args.handed.now c.args.s.fill_bit_count c.if-handed-gt384.false c.unarmor.result _ _ refl
-    c.unarmor.ensures _ c.in-Bytes.is in
-    let l = length-take-le c.in-Bytes.n c.unarmor.new.out (omega (arith, c.unarmor.auto.out, k)) in (
+    let k : c.in-Ok.n ≤ 288 = unarmored-fits c.args.handed.now c.args.s.fill_bit_count c.if-handed-gt384.false c.unarmor.result _ _ refl
+    c.unarmor.ensures _ c.in-Ok.is in
+    let l = length-take-le c.in-Ok.n c.unarmor.new.out (omega (arith, c.unarmor.auto.out, k)) in (
       record { few = c.if-handed-gt384.false; room = c.if-payload-lt384.false },
       omega (arith, c.if-bits-lt288.false, k, l),
     )
 
-pub returns-in-Bytes : goal.returns-in-Bytes
-returns-in-Bytes c =
+pub returns-in-Ok : goal.returns-in-Ok
+returns-in-Ok c =
     decoded_parsed c.args.s c.args.handed.now c.args.payload.now c.parsed.result c.args.bits.now c.if-payload-lt384.false
     c.if-bits-lt288.false
     c.if-handed-gt384.false c.unarmor.result _ c.unarmor.new.out refl c.unarmor.ensures
-    c.in-Bytes.n c.in-Bytes.is _ _ c.parsed.ensures
+    c.in-Ok.n c.in-Ok.is _ _ c.parsed.ensures

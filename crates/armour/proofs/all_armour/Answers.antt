@@ -10,17 +10,15 @@ use Rattle.armour.specs.Armour.{first_bad}
 use Rattle.armour.proofs.Laws.{good_next}
 use Rattle.armour.proofs.all_armour.Goals as goal
 
-pub loop-i-init : goal.loop-i-init
-loop-i-init c = (sym (le-leb 0 (first_bad c.args.payload.now) (omega arith)), omega arith)
+pub loop-b-init : goal.loop-b-init
+loop-b-init c = sym (le-leb 0 (first_bad c.args.payload.now) (omega arith))
 
-pub loop-i-preserved : goal.loop-i-preserved
-loop-i-preserved c = (
-  ap (λ (t : Bool). t && c.is_armour-good.result) c.loop-i.invariant.0 ∙ ap (λ (t : Bool). leb c.loop-i.i (first_bad c.args.payload.now) && t) c.is_armour-good.ensures
-      ∙ good_next c.args.payload.now c.loop-i.i (omega arith),
-  omega arith,
-)
+pub loop-b-preserved : goal.loop-b-preserved
+loop-b-preserved c =
+    ap (λ (t : Bool). t && c.is_armour-good.result) c.loop-b.invariant ∙ ap (λ (t : Bool). leb c.loop-b.b-index (first_bad c.args.payload.now) && t) c.is_armour-good.ensures
+    ∙ good_next c.args.payload.now c.loop-b.b-index (omega arith)
 
 pub returns : goal.returns
 returns c =
-    let e : c.loop-i.i ≡ length c.args.payload.now = omega arith in
-    c.loop-i.invariant.0 ∙ ap (λ (n : ℕ). leb n (first_bad c.args.payload.now)) e
+    let e : c.loop-b.b-index ≡ length c.args.payload.now = omega arith in
+    c.loop-b.invariant ∙ ap (λ (n : ℕ). leb n (first_bad c.args.payload.now)) e

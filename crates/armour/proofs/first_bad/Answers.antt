@@ -11,18 +11,6 @@ use Rattle.armour.proofs.first_bad.Goals as goal
 pub loop-i-init : goal.loop-i-init
 loop-i-init c = (omega arith, sym (zero-add _))
 
-pub bounds-payload-i : goal.bounds-payload-i
-bounds-payload-i c = omega arith
-
-pub six-requires : goal.six-requires
-six-requires c = tt
-
-pub overflow_add-i : goal.overflow_add-i
-overflow_add-i c = omega arith
-
-pub loop-i-smaller : goal.loop-i-smaller
-loop-i-smaller c = omega arith
-
 pub loop-i-preserved : goal.loop-i-preserved
 loop-i-preserved c =
     let k : meaning (get_or c.args.payload.now c.loop-i.i 0) < 64 = omega (arith, c.six.ensures) in

@@ -1,31 +1,18 @@
 -- `decoding::asked_by_option` meets its contract. Assumes nothing.
-use mathlib.Core.Path.{sym, ◌∙◌}
-use borrow.Author.Tests.{eq-eqb, ne_eqb}
-use Rattle.decoding.specs.Asked.{option_by}
+use Rattle.std.proofs.Common.{ap}
+use Rattle.lines.proofs.Same.{equal_says}
+use Rattle.decoding.specs.Asked.{option_by, asks}
 use Rattle.decoding.proofs.asked_by_option.Goals as goal
 
-pub returns-then-same : goal.returns-then-same
+pub returns-then-eq : goal.returns-then-eq
 unfolding option_by
-returns-then-same c = rw (sym c.same.ensures ∙ c.if-same.true)
+returns-then-eq c = rw (equal_says _ _ _ _ c.if-eq.ensures c.as_slice.ensures)
 
-pub returns-then-same-2 : goal.returns-then-same-2
+pub returns-then-eq-2 : goal.returns-then-eq-2
 unfolding option_by
-returns-then-same-2 c = rw (sym c.same.ensures ∙ c.if-same.false, sym c.same-2.ensures ∙ c.if-same-2.true)
+returns-then-eq-2 c = rw (equal_says _ _ _ _ c.if-eq.ensures c.as_slice.ensures, equal_says _ _ _ _ c.if-eq-2.ensures c.as_slice-2.ensures)
 
-pub returns-then-a-eq0 : goal.returns-then-a-eq0
+pub returns : goal.returns
 unfolding option_by
-returns-then-a-eq0 c =
-    rw (
-      sym c.same.ensures ∙ c.if-same.false,
-      sym c.same-2.ensures ∙ c.if-same-2.false,
-      eq-eqb _ _ c.if-a-eq0.true,
-    )
-
-pub returns-else-a-eq0 : goal.returns-else-a-eq0
-unfolding option_by
-returns-else-a-eq0 c =
-    rw (
-      sym c.same.ensures ∙ c.if-same.false,
-      sym c.same-2.ensures ∙ c.if-same-2.false,
-      ne_eqb _ _ c.if-a-eq0.false,
-    )
+returns c = rw (equal_says _ _ _ _ c.if-eq.ensures c.as_slice.ensures, equal_says _ _ _ _ c.if-eq-2.ensures c.as_slice-2.ensures)
+    (ap (asks c.args.asked.help c.args.asked.status c.args.asked.quiet c.args.asked.summary c.args.asked.inputs) c.or-a.ensures)

@@ -1,15 +1,14 @@
--- `face_rows::put_rows` meets its contract. Assumes nothing.
-use Prim.Native.Nat.{◌-◌}
+-- `face_rows::put_rows` meets its contract: what is put so far and what the rows that are left print, but for those left out, are the whole. Assumes nothing.
 use mathlib.Core.Path.{◌≡◌}
-use lib.ListN.{length, drop}
-use Rattle.text_out.specs.Text.{text, put}
-use Rattle.face_rows.specs.Rows.{printed}
+use lib.ListN.{drop}
+use Rattle.text_out.specs.Text.{put}
+use Rattle.text_out.specs.Output.{stands}
+use Rattle.face_rows.specs.Rows.{printed, printed_from}
 use Rattle.face_rows.specs.Code.{rows_in}
 use Rattle.face_rows.proofs.put_rows.Given as goal
 
-abbrev pub invariant-loop-i : goal.invariant-loop-i
-invariant-loop-i l = (put (text l.p l.out) (printed (rows_in l.words (drop l.i l.rows)) l.numbers l.texts) ≡ put (text l.at l.initial.out) (printed (rows_in l.words l.rows) l.numbers l.texts))
-    × (length l.out ≡ length l.initial.out)
-
-abbrev pub decreases-loop-i : goal.decreases-loop-i
-decreases-loop-i l = length l.rows - l.i
+abbrev pub invariant-loop-row : goal.invariant-loop-row
+invariant-loop-row l = record {
+  same : l.out.buffer.ghost_name ≡ l.initial.out.buffer.ghost_name;
+  is : put (stands l.out) (printed_from l.skip (rows_in (drop l.row-index l.rows)) l.numbers l.texts) ≡ put (stands l.initial.out) (printed (rows_in l.rows) l.numbers l.texts);
+}

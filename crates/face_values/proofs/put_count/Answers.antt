@@ -1,7 +1,8 @@
 -- `face_values::put_count` meets its contract. Assumes nothing.
+use Rattle.std.proofs.Common.{rules}
 use mathlib.Core.List.{[], ◌∷◌}
 use Rattle.text_out.proofs.Laws.{put_then}
 use Rattle.face_values.proofs.put_count.Goals as goal
 
 pub returns : goal.returns
-returns c = put_then _ _ _ c.put_decimal-a.ensures (put_then _ (46 ∷ []) _ c.put_byte-b.ensures c.put_nine.ensures)
+returns c = record { same = search rules; is = put_then _ _ _ c.put_decimal.ensures.is (put_then _ (46 ∷ []) _ c.put_byte.ensures.is c.put_nine.ensures.is) }

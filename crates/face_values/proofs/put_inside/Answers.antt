@@ -1,20 +1,16 @@
 -- `face_values::put_inside` meets its contract. Assumes nothing.
+use Rattle.std.proofs.Common.{rules}
 use native.Mathlib.Omega.{arith}
-use mathlib.Core.Path.{refl, sym, ap, ◌∙◌}
-use lib.ListN.{length}
-use Rattle.text_out.specs.Text.{Text, text}
-use Rattle.text_out.proofs.Laws.{put-length}
+use mathlib.Core.Path.{sym, ◌∙◌}
+use Rattle.text_out.specs.Output.{stands}
 use Rattle.face_values.proofs.Escaped.{inside_step, inside-end}
 use Rattle.face_values.proofs.put_inside.Goals as goal
 
-pub loop-i-init : goal.loop-i-init
-loop-i-init c = (refl, refl)
-
-pub loop-i-preserved : goal.loop-i-preserved
-loop-i-preserved c = (
-  inside_step (text c.loop-i.p c.loop-i.out) c.args.s.now c.loop-i.i (omega arith) c.put_char-p.ensures c.loop-i.invariant.0,
-  ap (λ (t : Text). length t.bytes) c.put_char-p.ensures ∙ put-length (text c.loop-i.p c.loop-i.out) _ ∙ c.loop-i.invariant.1,
-)
+pub loop-b-preserved : goal.loop-b-preserved
+loop-b-preserved c = record {
+  same = search rules;
+  is = inside_step (stands c.loop-b.out) c.args.s.now c.loop-b.b-index (omega arith) c.put_char.ensures.is c.loop-b.invariant.is;
+}
 
 pub returns : goal.returns
-returns c = sym (inside-end (text c.loop-i.p c.loop-i.out) c.args.s.now c.loop-i.i (omega arith)) ∙ c.loop-i.invariant.0
+returns c = record { same = search rules; is = sym (inside-end (stands c.loop-b.out) c.args.s.now c.loop-b.b-index (omega arith)) ∙ c.loop-b.invariant.is }

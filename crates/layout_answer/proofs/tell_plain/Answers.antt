@@ -1,4 +1,6 @@
 -- `layout_answer::tell_plain` meets its contract: four runs of numbers, and the texts. Assumes nothing.
+use Rattle.std.proofs.Common.{rules, ap, ◌∙◌, replicate}
+use Rattle.text_out.specs.Text.{Text, put}
 use Rattle.text_out.proofs.Laws.{put_then}
 use Rattle.layout_numbers.proofs.Laws.{put-named}
 use Rattle.answer.specs.Answer.{plainly}
@@ -11,4 +13,4 @@ returns c =
     (put_then _ _ _ (put-named _ c.put_numbers-b.ensures c.values-values.ensures)
     (put_then _ _ _ (put-named _ c.put_numbers-c.ensures c.of_sentence-heard.ensures)
     (put_then _ _ _ c.put_numbers-d.ensures c.put_numbers.ensures)))
-    c.put_no_texts.ensures
+    (c.put_no_texts.ensures.is ∙ ap (λ (t : Text). put t (replicate 80 0)) c.new.ensures.is) (search rules)

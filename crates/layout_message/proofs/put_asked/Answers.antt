@@ -5,5 +5,5 @@ use Rattle.layout_message.proofs.put_asked.Goals as goal
 
 pub returns : goal.returns
 returns c =
-    together _ c.args.i c.put_runs.ensures (c.station-first.ensures ∙ none_alike c.args.i.stations 0)
-    (c.station-second.ensures ∙ none_alike c.args.i.stations 1)
+    together _ c.args.i c.put_runs.ensures (c.station.ensures ∙ none_alike c.args.i.stations 0)
+    (c.station-2.ensures ∙ none_alike c.args.i.stations 1)

@@ -5,6 +5,6 @@ use Rattle.layout_position.proofs.put_position.Goals as goal
 
 pub returns : goal.returns
 returns c =
-    put_then _ _ _ (put-named _ c.put_numbers-a.ensures c.movement-moves.ensures)
-    (put_then _ _ _ (put-named _ c.put_numbers-b.ensures c.position-stands.ensures)
-    (put-named _ c.put_numbers.ensures c.radio-sends.ensures))
+    put_then _ _ _ (put-named _ c.put_numbers-a.ensures c.movement.ensures)
+    (put_then _ _ _ (put-named _ c.put_numbers-b.ensures c.position.ensures)
+    (put-named _ c.put_numbers.ensures c.radio.ensures))

@@ -21,5 +21,5 @@ unfolding last_of
 returns c =
     rw (le-ltb _ _ c.if-line-m.false, ne_eqb _ _ c.if-state-eq0.false)
     (c.ended.ensures ∙ ap (λ (h : List ℕ). event_of c.args.most c.args.strip h 0)
-    (ap (λ (n : ℕ). held_of c.args.most n c.args.line.now) c.least.ensures
+    (ap (λ (n : ℕ). held_of c.args.most n c.args.line.now) c.min.ensures
     ∙ held_cap c.args.most c.args.state.len c.args.line.now c.if-line-m.false))

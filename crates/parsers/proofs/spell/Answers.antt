@@ -11,22 +11,7 @@ use Rattle.parsers.proofs.spell.Goals as goal
 
 pub loop-i-init : goal.loop-i-init
 unfolding chars_of
-loop-i-init c = (omega arith, (refl, refl))
-
-pub overflow_add-start : goal.overflow_add-start
-overflow_add-start c = omega arith
-
-pub ascii_at-requires : goal.ascii_at-requires
-ascii_at-requires c = omega arith
-
-pub bounds-out-i : goal.bounds-out-i
-bounds-out-i c = omega arith
-
-pub overflow_add-i : goal.overflow_add-i
-overflow_add-i c = omega arith
-
-pub loop-i-smaller : goal.loop-i-smaller
-loop-i-smaller c = omega arith
+loop-i-init c = (refl, refl)
 
 pub loop-i-preserved : goal.loop-i-preserved
 unfolding chars_of
@@ -34,14 +19,11 @@ loop-i-preserved c =
     let s = chars_of c.args.bytes.now (c.args.at + c.args.start * 6) c.loop-i.i in
     let e = char_from c.args.bytes.now c.args.at c.args.start (c.args.start + c.loop-i.i) c.loop-i.i refl in
     let h : c.loop-i.i < length (replicate {A = ℕ} 20 0) = omega arith in (
-      omega arith,
-      (
-        simp length-set c.loop-i.invariant.1.0,
-        rw (c.loop-i.invariant.1.1, c.ascii_at.ensures, e, snoc_set s c.loop-i.i _ (replicate 20 0) (chars-length _ _ _) h, add-one c.loop-i.i),
-      ),
+      simp length-set c.loop-i.invariant.0,
+      rw (c.loop-i.invariant.1, c.ascii_at.ensures, e, snoc_set s c.loop-i.i _ (replicate 20 0) (chars-length _ _ _) h, add-one c.loop-i.i),
     )
 
 pub returns : goal.returns
 returns c =
     let e : c.loop-i.i ≡ c.args.count = omega arith in
-    rw (chars-length c.args.bytes.now (c.args.at + c.args.start * 6) c.args.count, c.loop-i.invariant.1.1, e)
+    rw (chars-length c.args.bytes.now (c.args.at + c.args.start * 6) c.args.count, c.loop-i.invariant.1, e)

@@ -1,5 +1,5 @@
 -- `spell`: the characters stand first, zeros after them. Assumes nothing.
-use Prim.Native.Nat.{◌+◌, ◌-◌, ◌*◌, ◌≤◌}
+use Prim.Native.Nat.{◌+◌, ◌*◌}
 use mathlib.Core.Path.{◌≡◌}
 use mathlib.Core.List.{◌++◌}
 use lib.ListN.{length, drop, replicate}
@@ -7,7 +7,4 @@ use Rattle.parsers.specs.Text.{chars_of}
 use Rattle.parsers.proofs.spell.Given as goal
 
 abbrev pub invariant-loop-i : goal.invariant-loop-i
-invariant-loop-i l = (l.i ≤ l.count) × ((length l.out ≡ 20) × (l.out ≡ chars_of l.bytes (l.at + l.start * 6) l.i ++ drop l.i (replicate 20 0)))
-
-abbrev pub decreases-loop-i : goal.decreases-loop-i
-decreases-loop-i l = l.count - l.i
+invariant-loop-i l = (length l.out ≡ 20) × (l.out ≡ chars_of l.bytes (l.at + l.start * 6) l.i ++ drop l.i (replicate 20 0))

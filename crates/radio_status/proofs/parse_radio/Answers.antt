@@ -1,19 +1,19 @@
 -- `radio_status::parse_radio` meets its contract: no status of this type, too few bytes, or the status. Assumes nothing.
+use Rattle.std.specs.Prelude.{Ok}
 use mathlib.Core.Path.{ap, sym, ◌∙◌}
 use native.Mathlib.Omega.{arith}
 use Rattle.refusal.proofs.Within.{in_range, below_range, above_range}
 use Rattle.radio_status.specs.Radio.{radio_in}
-use Rattle.radio_status.specs.declared.Radio.{Radio}
 use Rattle.radio_status.specs.declared.RadioStatus.{RadioStatus}
 use Rattle.radio_status.proofs.Laws.{no_radio, radio-ends, radio-is}
 use Rattle.radio_status.proofs.parse_radio.Goals as goal
 
-pub returns-then-bytes-lt21 : goal.returns-then-bytes-lt21
-returns-then-bytes-lt21 c = sym (radio-ends _ _ (in_range 1 3 _ (omega arith) (omega arith)) (omega arith))
-
 pub returns-in-1-to-3 : goal.returns-in-1-to-3
-returns-in-1-to-3 c =
-    ap (λ (s : RadioStatus). radio_in (Radio.Status s)) c.read_radio.ensures
+returns-in-1-to-3 c = sym (radio-ends _ _ (in_range 1 3 _ (omega arith) (omega arith)) (omega arith))
+
+pub returns-in-1-to-3-2 : goal.returns-in-1-to-3-2
+returns-in-1-to-3-2 c =
+    ap (λ (s : RadioStatus). radio_in (Ok s)) c.read_radio.ensures
     ∙ sym (radio-is _ _ (in_range 1 3 _ (omega arith) (omega arith)) (omega arith))
 
 pub returns-in_default : goal.returns-in_default

@@ -16,8 +16,8 @@ returns-then-is_first c =
 pub returns-then-is_alone : goal.returns-then-is_alone
 returns-then-is_alone c =
     join_alone c.args.state c.args.fragment c.args.payload.now
-    (ap is_alone (sym c.part_of-part.ensures) ∙ sym c.is_alone.ensures ∙ c.if-is_alone.true) c.alone-outcome.result
-    c.alone-outcome.ensures
+    (ap is_alone (sym c.part_of-part.ensures) ∙ sym c.is_alone.ensures ∙ c.if-is_alone.true) c.alone.result
+    c.alone.ensures
 
 pub returns : goal.returns
 returns c =

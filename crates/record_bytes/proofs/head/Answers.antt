@@ -1,8 +1,7 @@
 -- `record_bytes::head` meets its contract. Assumes nothing.
+use mathlib.Core.Path.{◌∙◌}
+use Rattle.record_bytes.proofs.Sixteen.{head-is}
 use Rattle.record_bytes.proofs.head.Goals as goal
 
-pub returns-in-Absent : goal.returns-in-Absent
-returns-in-Absent c = rw (c.in-Absent.is, c.to_eight-s.ensures)
-
-pub returns-in-Of : goal.returns-in-Of
-returns-in-Of c = rw (c.in-Of.is, c.to_eight-s.ensures)
+pub returns : goal.returns
+returns c = head-is c.args.number c.args.fragment c.args.len c.is_some.ensures c.unwrap_or.ensures (c.copy_from_slice.ensures.after ∙ c.to_le_bytes.ensures)

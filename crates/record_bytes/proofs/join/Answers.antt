@@ -10,8 +10,8 @@ use Rattle.record_bytes.proofs.join.Goals as goal
 
 pub returns-then-state-lt400 : goal.returns-then-state-lt400
 returns-then-state-lt400 c =
-    joins_few c.args.state.now c.args.fragment c.args.payload.now c.join-joined.result c.if-state-lt400.true
-    (c.join-joined.ensures ∙ ap (λ (r : Record). join_of r c.args.fragment c.args.payload.now) c.fresh.ensures)
+    joins_few c.args.state.now c.args.fragment c.args.payload.now c.join.result c.if-state-lt400.true
+    (c.join.ensures ∙ ap (λ (r : Record). join_of r c.args.fragment c.args.payload.now) c.fresh.ensures)
 
 pub join_first-requires : goal.join_first-requires
 join_first-requires c = (

@@ -3,13 +3,10 @@ use mathlib.Core.Path.{◌≡◌, sym, ◌∙◌}
 use native.Mathlib.Omega.{arith}
 use lib.ListN.{length}
 use lib.Seq.{length-take-le}
-use borrow.Author.Tests.{lt-ltb, le-ltb}
+use borrow.Author.Tests.{le-ltb}
 use Rattle.record_bytes.proofs.Laws.{head_in, kept_by}
 use borrow.Author.Rules.{rules}
 use Rattle.record_bytes.proofs.keep.Goals as goal
-
-pub returns-then-state-lt400 : goal.returns-then-state-lt400
-returns-then-state-lt400 c = rw (lt-ltb (length c.args.state.now) 400 c.if-state-lt400.true)
 
 pub slice_bounds-copy_from_slice-end-2 : goal.slice_bounds-copy_from_slice-end-2
 slice_bounds-copy_from_slice-end-2 c = omega (arith, length-take-le 16 c.args.state.now (omega (arith, c.if-state-lt400.false)))

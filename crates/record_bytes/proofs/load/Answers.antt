@@ -1,12 +1,9 @@
 -- `record_bytes::load` meets its contract. Assumes nothing.
 use mathlib.Core.Path.{◌∙◌}
 use lib.ListN.{length}
-use borrow.Author.Tests.{lt-ltb, le-ltb}
+use borrow.Author.Tests.{le-ltb}
 use Rattle.record_bytes.proofs.Laws.{loaded}
 use Rattle.record_bytes.proofs.load.Goals as goal
-
-pub returns-then-state-lt400 : goal.returns-then-state-lt400
-returns-then-state-lt400 c = rw (lt-ltb (length c.args.state.now) 400 c.if-state-lt400.true) c.fresh.ensures
 
 pub returns : goal.returns
 returns c =

@@ -12,7 +12,7 @@ slice_bounds-read_sentence-count c =
     omega (
       arith,
       (its-sentence _ _ (its-parsed (record_in c.args.state.now) c.args.line.now c.args.decode c.args.payload.now c.args.bits.now _
-          (sym c.check.ensures ∙ ap checked_in c.in-Sentence.is))).some-payload,
+          (sym c.check.ensures ∙ ap checked_in c.in-Ok.is))).some-payload,
     )
 
 pub slice_bounds-read_sentence-start : goal.slice_bounds-read_sentence-start
@@ -20,7 +20,7 @@ slice_bounds-read_sentence-start c =
     omega (
       arith,
       (its-sentence _ _ (its-parsed (record_in c.args.state.now) c.args.line.now c.args.decode c.args.payload.now c.args.bits.now _
-          (sym c.check.ensures ∙ ap checked_in c.in-Sentence.is))).some-payload,
+          (sym c.check.ensures ∙ ap checked_in c.in-Ok.is))).some-payload,
     )
 
 pub slice_bounds-read_sentence-end : goal.slice_bounds-read_sentence-end
@@ -28,19 +28,19 @@ slice_bounds-read_sentence-end c =
     omega (
       arith,
       (its-sentence _ _ (its-parsed (record_in c.args.state.now) c.args.line.now c.args.decode c.args.payload.now c.args.bits.now _
-          (sym c.check.ensures ∙ ap checked_in c.in-Sentence.is))).payload-inside,
+          (sym c.check.ensures ∙ ap checked_in c.in-Ok.is))).payload-inside,
     )
 
 pub read_sentence-requires : goal.read_sentence-requires
 read_sentence-requires c = c.requires
 
-pub returns-in-Refused : goal.returns-in-Refused
-returns-in-Refused c =
-    reads_early c.args.state.now c.requires c.args.payload.now c.args.bits.now c.args.decode c.args.line.now c.in-Refused.refusal
-    (sym c.check.ensures ∙ ap checked_in c.in-Refused.is) c.keep.ensures
+pub returns-in-Err : goal.returns-in-Err
+returns-in-Err c =
+    reads_early c.args.state.now c.requires c.args.payload.now c.args.bits.now c.args.decode c.args.line.now c.in-Err.refusal
+    (sym c.check.ensures ∙ ap checked_in c.in-Err.is) c.keep.ensures
     c.tell_refused.ensures
 
-pub returns-in-Sentence : goal.returns-in-Sentence
-returns-in-Sentence c =
+pub returns-in-Ok : goal.returns-in-Ok
+returns-in-Ok c =
     reads_sentence c.args.state.now c.requires c.args.payload.now c.args.bits.now c.args.decode c.args.line.now _
-    (sym c.check.ensures ∙ ap checked_in c.in-Sentence.is) c.read_sentence.ensures
+    (sym c.check.ensures ∙ ap checked_in c.in-Ok.is) c.read_sentence.ensures

@@ -1,15 +1,12 @@
--- `digits` meets its contract: the digits left, after those of value v, give the same number from each place passed. Assumes nothing.
+-- `digits` meets its contract: the digits left, after those of value v, give the same number from each byte passed. Assumes nothing.
 use mathlib.Core.Path.{◌≡◌}
 use Prim.Native.Nat.{◌+◌, ◌≤◌}
-use lib.ListN.{length}
-use Rattle.scan.specs.Scan.{value}
-use Rattle.scan.proofs.Steps.{run}
+use lib.ListN.{length, drop}
+use Rattle.scan.specs.Scan.{digits, value}
 use Rattle.scan.proofs.digits.Given as goal
 
-abbrev pub invariant-loop-i : goal.invariant-loop-i
-invariant-loop-i l = (value l.radix l.v (run l.radix l.line l.i l.left) ≡ value l.radix 0 (run l.radix l.line l.at l.most))
-    × (l.i + length (run l.radix l.line l.i l.left) ≡ l.at + length (run l.radix l.line l.at l.most))
+abbrev pub invariant-loop-b : goal.invariant-loop-b
+invariant-loop-b l = (value l.radix l.v (digits l.radix (drop l.b-index l.b-items)) ≡ value l.radix 0 (digits l.radix l.b-items))
+    × (l.b-index + length (digits l.radix (drop l.b-index l.b-items)) ≡ length (digits l.radix l.b-items))
     × (l.v ≤ 255)
-
-abbrev pub decreases-loop-i : goal.decreases-loop-i
-decreases-loop-i l = l.left
+    × (l.count ≡ l.b-index)

@@ -1,17 +1,16 @@
 -- `to_digit` meets its contract. Assumes nothing.
-use mathlib.Core.Path.{sym, ◌∙◌}
-use borrow.Author.Tests.{lt-ltb, le-ltb}
+use Rattle.std.proofs.Common.{rules}
 use Rattle.scan.specs.Scan.{digit_of}
 use Rattle.scan.proofs.to_digit.Goals as goal
 
-pub returns-in_default : goal.returns-in_default
+pub returns-in_err-d : goal.returns-in_err-d
 unfolding digit_of
-returns-in_default c = rw (sym c.hex_digit.ensures ∙ c.in_default.is)
+returns-in_err-d c = search rules
 
-pub returns-then-d-radix : goal.returns-then-d-radix
+pub returns-then-from-radix : goal.returns-then-from-radix
 unfolding digit_of
-returns-then-d-radix c = rw (sym c.hex_digit.ensures ∙ c.in-Of.is, lt-ltb _ _ c.if-d-radix.true)
+returns-then-from-radix c = search rules
 
 pub returns : goal.returns
 unfolding digit_of
-returns c = rw (sym c.hex_digit.ensures ∙ c.in-Of.is, le-ltb _ _ c.if-d-radix.false)
+returns c = search rules

@@ -12,7 +12,7 @@ unfolding alone_said
 returns-then-named-2 c =
     rw (
       sym c.named.ensures ∙ c.if-named.false,
-      sym c.named-2.ensures ∙ c.if-named-2.true,
+      sym c.named-else-named.ensures ∙ c.if-named-2.true,
     )
     c.say_decode.ensures
 
@@ -21,17 +21,17 @@ unfolding alone_said
 returns-then-named-3 c =
     rw (
       sym c.named.ensures ∙ c.if-named.false,
-      sym c.named-2.ensures ∙ c.if-named-2.false,
-      sym c.named-3.ensures ∙ c.if-named-3.true,
+      sym c.named-else-named.ensures ∙ c.if-named-2.false,
+      sym c.named-else-named-2.ensures ∙ c.if-named-3.true,
     )
     c.say_write.ensures
 
-pub returns : goal.returns
+pub returns-else-named-3 : goal.returns-else-named-3
 unfolding alone_said
-returns c =
+returns-else-named-3 c =
     rw (
       sym c.named.ensures ∙ c.if-named.false,
-      sym c.named-2.ensures ∙ c.if-named-2.false,
-      sym c.named-3.ensures ∙ c.if-named-3.false,
+      sym c.named-else-named.ensures ∙ c.if-named-2.false,
+      sym c.named-else-named-2.ensures ∙ c.if-named-3.false,
     )
     c.say_bad.ensures

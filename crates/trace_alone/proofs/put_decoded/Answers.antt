@@ -3,10 +3,10 @@ use mathlib.Core.Path.{sym}
 use Rattle.trace_alone.specs.Message.{decoded_shown}
 use Rattle.trace_alone.proofs.put_decoded.Goals as goal
 
-pub returns-in-Taken : goal.returns-in-Taken
+pub returns-in-Ok : goal.returns-in-Ok
 unfolding decoded_shown
-returns-in-Taken c = rw (sym c.parse-decoded.ensures, c.in-Taken.is) c.put_message.ensures
+returns-in-Ok c = rw (sym c.parse.ensures, c.in-Ok.is) c.put_message.ensures
 
-pub returns-in-Refused : goal.returns-in-Refused
+pub returns-in-Err : goal.returns-in-Err
 unfolding decoded_shown
-returns-in-Refused c = rw (sym c.parse-decoded.ensures, c.in-Refused.is) c.put_refusal.ensures
+returns-in-Err c = rw (sym c.parse.ensures, c.in-Err.is) c.put_refusal.ensures

@@ -5,5 +5,5 @@ use Rattle.trace_call.proofs.put_both_kept.Goals as goal
 pub returns-then-untouched : goal.returns-then-untouched
 returns-then-untouched c = rw (sym c.untouched.ensures ∙ c.if-untouched.true, sym c.untouched-then-untouched.ensures) c.put_kept.ensures
 
-pub returns : goal.returns
-returns c = rw (sym c.untouched.ensures ∙ c.if-untouched.false) c.put_kept-2.ensures
+pub returns-else-untouched : goal.returns-else-untouched
+returns-else-untouched c = rw (sym c.untouched.ensures ∙ c.if-untouched.false) c.put_kept-else-untouched.ensures

@@ -5,6 +5,6 @@ use Rattle.trace_commands.proofs.no_command.Goals as goal
 pub returns : goal.returns
 returns c =
     record {
-      out_after = c.say_bad.ensures;
-      state_value = refl;
+      said = c.say_bad.ensures;
+      kept = refl;
     }

@@ -8,4 +8,4 @@ returns-then-count-ne1 c = rw (ne_eqb _ 1 (λ e. c.if-count-ne1.true (c.count.en
 
 pub returns : goal.returns
 returns c =
-    rw (eq-eqb _ 1 (sym c.count.ensures ∙ c.if-count-ne1.false)) (record { out_after = c.put_bytes.ensures; state_value = c.fresh-fresh.ensures })
+    rw (eq-eqb _ 1 (sym c.count.ensures ∙ c.if-count-ne1.false)) (record { said = c.put_bytes.ensures; kept = c.fresh.ensures })

@@ -4,5 +4,5 @@ use Rattle.trace_show.proofs.put_kept.Goals as goal
 pub returns-then-kept : goal.returns-then-kept
 returns-then-kept c = rw c.if-kept.true c.put_bytes.ensures
 
-pub returns : goal.returns
-returns c = rw c.if-kept.false c.put_bytes-2.ensures
+pub returns-else-kept : goal.returns-else-kept
+returns-else-kept c = rw c.if-kept.false c.put_bytes-else-kept.ensures

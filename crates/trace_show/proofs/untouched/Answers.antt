@@ -1,11 +1,8 @@
 -- `trace_show::untouched` meets its contract: the rest is untouched if the whole is. Assumes nothing.
 use native.Mathlib.Omega.{arith}
-use mathlib.Core.Path.{refl, ◌∙◌}
+use mathlib.Core.Path.{◌∙◌}
 use Rattle.trace_show.proofs.Laws.{touched, untouched_next, untouched_end}
 use Rattle.trace_show.proofs.untouched.Goals as goal
-
-pub loop-i-init : goal.loop-i-init
-loop-i-init c = refl
 
 pub returns-then-lent-i : goal.returns-then-lent-i
 returns-then-lent-i c = touched c.args.lent.now c.loop-i.i (omega arith) c.if-lent-i.true ∙ c.loop-i.invariant

@@ -1,7 +1,7 @@
 -- `trace_turn::answer_long` meets its contract. Assumes nothing.
 use mathlib.Core.List.{[], ◌∷◌}
-use Rattle.text_out.proofs.Laws.{put_then}
+use Rattle.text_out.proofs.Pieces.{puts_then}
 use Rattle.trace_turn.proofs.answer_long.Goals as goal
 
 pub returns : goal.returns
-returns c = put_then _ _ (10 ∷ []) c.say_bad-at.ensures c.put_byte.ensures
+returns c = puts_then _ _ _ _ (10 ∷ []) c.say_bad.ensures c.put_byte.ensures

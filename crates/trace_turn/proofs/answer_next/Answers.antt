@@ -7,10 +7,6 @@ pub returns-in-Line : goal.returns-in-Line
 returns-in-Line c = rw c.in-Line.is c.answer_line.ensures
 
 pub returns-in-TooLong : goal.returns-in-TooLong
-returns-in-TooLong c = rw c.in-TooLong.is (ap (λ (t : Text). record { state = c.args.state; out = t }) c.answer_long.ensures)
-
-pub returns-in-Nothing : goal.returns-in-Nothing
-returns-in-Nothing c = rw c.in-Nothing.is
-
-pub returns-in-Room : goal.returns-in-Room
-returns-in-Room c = rw c.in-Room.is
+returns-in-TooLong c =
+    rw c.in-TooLong.is
+    (record { same = c.answer_long.ensures.same; is = ap (λ (t : Text). record { state = c.args.state; out = t }) c.answer_long.ensures.is })

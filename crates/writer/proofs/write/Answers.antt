@@ -1,10 +1,13 @@
 -- `write` meets its contract: each way out is one law of the answer (proofs/Answers). Assumes nothing.
-use mathlib.Core.Path.{refl, sym, ap, ◌∙◌}
+use Rattle.std.proofs.Common.{rules}
+use mathlib.Core.Path.{◌≡◌, refl, sym, ap, ◌∙◌}
 use mathlib.Core.List.{[]}
 use Prim.Native.Nat.{◌≤◌}
 use native.Mathlib.Omega.{arith}
 use lib.ListN.{length}
 use Rattle.refusal.specs.Words.{taken, refused}
+use Rattle.text_out.specs.Text.{Text, text, put}
+use Rattle.text_out.specs.Output.{stands}
 use Rattle.writer.specs.Message.{text_all}
 use Rattle.writer.specs.Writer.{message_of}
 use Rattle.writer.proofs.Sendable.{count_range}
@@ -31,12 +34,14 @@ overflow_add-need c = omega (arith, lines_small _ _ (sym c.is_outside.ensures �
 pub returns-then-out-need : goal.returns-then-out-need
 returns-then-out-need c = answered-by _ _ _ (refused 12 []) (says-12 _ _ _ (sym c.is_outside.ensures ∙ c.if-is_outside.false) (omega (arith, length_found _ _ (sym c.is_outside.ensures ∙ c.if-is_outside.false) _ _ c.lines_in-lines.ensures c.beside.ensures, c.if-out-need.true))) refl refl
 
-pub put_lines-requires : goal.put_lines-requires
-put_lines-requires c = sym c.is_outside.ensures ∙ c.if-is_outside.false
+pub invariant_of-accepted : goal.invariant_of-accepted
+invariant_of-accepted c = record { inside = sym c.is_outside.ensures ∙ c.if-is_outside.false }
 
 pub returns : goal.returns
 returns c =
     let b = sym c.is_outside.ensures ∙ c.if-is_outside.false in
     let room : length (text_all (message_of c.args.request c.args.bits.now)) ≤ length c.args.out.now =
     omega (arith, length_found _ _ (sym c.is_outside.ensures ∙ c.if-is_outside.false) _ _ c.lines_in-lines.ensures c.beside.ensures, c.if-out-need.false) in
-    answered-by _ _ _ (taken _) (says-taken _ _ _ b room) (ap taken (told-length _ _ _ _ c.put_lines.ensures room)) (stands-first _ _ _ _ c.put_lines.ensures room)
+    let s = text_all (message_of c.args.request c.args.bits.now) in
+    let e : stands c.put_lines.new.out ≡ put (text 0 c.args.out.now) s = c.put_lines.ensures.is ∙ ap (λ (t : Text). put t s) c.new-lent.ensures.is in
+    answered-by _ _ _ (taken _) (says-taken _ _ _ b room) (ap taken (told-length _ _ _ _ e room)) ((search rules) ∙ stands-first _ _ _ _ e room)

@@ -1,18 +1,17 @@
 -- `trace_commands::words::store` meets its contract: the bytes stored and those of the rest are the word's. Assumes nothing.
 use Prim.Native.Nat.{◌+◌, ◌*◌}
 use native.Mathlib.Omega.{arith}
-use mathlib.Core.Path.{refl, sym, ap, ◌∙◌}
-use lib.ListN.{length}
+use mathlib.Core.Path.{◌≡◌, sym, ap, ◌∙◌}
+use Rattle.std.proofs.Common.{rules}
 use Rattle.text_out.specs.Text.{Text, text, put}
-use Rattle.text_out.proofs.Laws.{put-length, put-nothing}
+use Rattle.text_out.specs.Output.{stands}
+use Rattle.text_out.proofs.Laws.{put-nothing}
+use Rattle.trace_commands.specs.Hex.{bytes_of}
 use Rattle.trace_commands.proofs.Readings.{hex-at, pair_end, store_next}
 use Rattle.trace_commands.proofs.words.store.Goals as goal
 
-pub loop-i-init : goal.loop-i-init
-loop-i-init c = (refl, omega arith, refl)
-
 pub overflow_mul-digit : goal.overflow_mul-digit
-overflow_mul-digit c = omega (arith, c.digit.ensures, hex-at c.args.w.now c.requires c.loop-i.i (omega arith))
+overflow_mul-digit c = omega (arith, c.digit.ensures, hex-at c.args.w.now c.requires (2 * c.loop-i.i) (omega arith))
 
 pub overflow_add-digit : goal.overflow_add-digit
 overflow_add-digit c =
@@ -20,16 +19,23 @@ overflow_add-digit c =
       arith,
       c.digit.ensures,
       c.digit-in-loop-i.ensures,
-      hex-at c.args.w.now c.requires c.loop-i.i (omega arith),
-      hex-at c.args.w.now c.requires (c.loop-i.i + 1) (omega arith),
+      hex-at c.args.w.now c.requires (2 * c.loop-i.i) (omega arith),
+      hex-at c.args.w.now c.requires (2 * c.loop-i.i + 1) (omega arith),
     )
 
 pub loop-i-preserved : goal.loop-i-preserved
-loop-i-preserved c = (
-  store_next c.args.w.now c.loop-i.i (text c.loop-i.at c.loop-i.into) _ _ (c.digit.result * 16 + c.digit-in-loop-i.result) (omega arith) (cc) c.put_byte-at.ensures c.loop-i.invariant.0,
-  omega arith,
-  ap (λ (t : Text). length t.bytes) c.put_byte-at.ensures ∙ put-length (text c.loop-i.at c.loop-i.into) _ ∙ c.loop-i.invariant.2,
-)
+loop-i-preserved c = record {
+  same = search rules;
+  is =
+      let z : 2 * (c.loop-i.i + 1) ≡ 2 * c.loop-i.i + 2 = omega arith in
+      rw z
+      (store_next c.args.w.now (2 * c.loop-i.i) (stands c.loop-i.out) _ _ (c.digit.result * 16 + c.digit-in-loop-i.result) (omega arith) (cc)
+      c.put_byte.ensures.is c.loop-i.invariant.is);
+}
 
 pub returns : goal.returns
-returns c = sym (ap (put (text c.loop-i.at c.loop-i.into)) (pair_end c.args.w.now c.loop-i.i c.loop-i.invariant.1 (omega arith)) ∙ put-nothing (text c.loop-i.at c.loop-i.into)) ∙ c.loop-i.invariant.0
+returns c =
+    let t = stands c.loop-i.out in
+    ap (text c.loop-i.out.at) (search rules)
+    ∙ sym (ap (put t) (pair_end c.args.w.now (2 * c.loop-i.i) (omega arith) (omega arith)) ∙ put-nothing t)
+    ∙ c.loop-i.invariant.is ∙ ap (λ (x : Text). put x (bytes_of c.args.w.now)) c.new-out.ensures.is

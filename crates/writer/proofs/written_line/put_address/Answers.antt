@@ -1,10 +1,13 @@
 -- `put_address` meets its contract: the letters of both, where they have any. Assumes nothing.
-use Rattle.text_out.specs.Text.{text}
+use Rattle.std.proofs.Common.{rules}
+use Rattle.text_out.specs.Output.{stands}
 use Rattle.text_out.proofs.Laws.{put_then}
-use Rattle.writer.proofs.Letters.{talker-told, report-told}
 use Rattle.writer.proofs.written_line.put_address.Goals as goal
 
 pub returns : goal.returns
-returns c =
-    rw (talker-told c.args.talker _ c.talker_letters-s.ensures, report-told c.args.report _ c.report_letters-t.ensures)
-    (put_then (text c.args.at c.args.out.now) _ _ c.put_letters-a.ensures c.put_letters.ensures)
+returns c = record {
+  same = search rules;
+  is =
+      rw (← c.talker_letters.ensures, ← c.report_letters.ensures)
+      (put_then (stands c.args.out.now) _ _ c.put_bytes.ensures.is c.put_bytes-2.ensures.is);
+}

@@ -1,5 +1,0 @@
--- `decode::answer_all` ends: its count of rounds falls. Assumes nothing.
-use Rattle.decode.proofs.answer_all.Given as goal
-
-abbrev pub decreases-loop-rounds : goal.decreases-loop-rounds
-decreases-loop-rounds l = l.rounds

@@ -1,6 +1,0 @@
--- `decode::ask` ends: fewer words are left with each turn. Assumes nothing.
-use Rattle.std.proofs.Common.{◌-◌}
-use Rattle.decode.proofs.ask.Given as goal
-
-abbrev pub decreases-loop-i : goal.decreases-loop-i
-decreases-loop-i l = l.count - l.i

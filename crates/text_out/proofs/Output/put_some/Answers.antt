@@ -1,0 +1,16 @@
+-- `Output::put_some` meets its contract. Assumes nothing.
+use Rattle.std.proofs.Common.{rules}
+use native.Mathlib.Omega.{arith}
+use mathlib.Core.Path.{sym, ◌∙◌}
+use Rattle.text_out.specs.Output.{stands}
+use Rattle.text_out.proofs.Strings.{bytes_step, bytes-end}
+use Rattle.text_out.proofs.Output.put_some.Goals as goal
+
+pub loop-b-preserved : goal.loop-b-preserved
+loop-b-preserved c = record {
+  same = search rules;
+  is = bytes_step (stands c.loop-b.self) _ _ c.args.s.now c.loop-b.b-index (omega arith) c.put_byte.ensures.is c.loop-b.invariant.is;
+}
+
+pub returns : goal.returns
+returns c = record { same = search rules; is = sym (bytes-end (stands c.loop-b.self) c.args.s.now c.loop-b.b-index (omega arith)) ∙ c.loop-b.invariant.is }
