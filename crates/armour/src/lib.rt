@@ -202,7 +202,7 @@ fn needed(payload: &[u8], fill: usize, room: usize) -> Result<usize, Refusal>
     Err(Refusal::Armour { offset: at })
 }
 
-// Unarmors a payload of at most 384 characters into `out`, and tells how many bytes stand first there.
+// Unarmors a payload of at most 384 characters into `out`, and tells how many bytes stand first there: refusals 7, 6, 12 and 8, in that order.
 pub fn unarmor(payload: &[u8], fill: usize, out: &mut [u8]) -> Result<usize, Refusal>
     ensures { Unarmors payload.now fill out.old result out.new }
 {

@@ -19,7 +19,7 @@ use refusal::Refusal;
 use sentence::{AisReportType, TalkerId};
 use text_out::Output;
 
-// The code of an outcome.
+// The code of an outcome: the number that C reads.
 fn code(outcome: Outcome) -> u32
     ensures { result ≡ code_of (outcome_in outcome) }
 {
@@ -49,7 +49,7 @@ fn values(outcome: Outcome) -> [u64; 2]
     }
 }
 
-// How many values it has.
+// How many values it has, as C has it.
 pub fn value_count(outcome: Outcome) -> u64
     ensures { result ≡ value_count (outcome_in outcome) }
 {

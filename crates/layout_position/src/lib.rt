@@ -52,7 +52,7 @@ fn of_turn(turn: Option<RateOfTurn>) -> Option<u64>
     turn.map(|sent| of_signed(i32::from(sent.raw)))
 }
 
-// A direction.
+// A direction, by the layout's number, as C has it.
 fn of_direction(direction: Option<Direction>) -> u64
     ensures { result ≡ direction_number direction }
 {

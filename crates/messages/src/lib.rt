@@ -1,4 +1,5 @@
 // Decoding alone: from unarmored bytes to one of the five message types (messages/mod.rs, `parse`).
+// Numbers are matched as they were sent: the paper's table says what each means.
 #![tactic(auto)]
 
 ghost use Rattle.std.specs.Prelude.{◌≡◌};

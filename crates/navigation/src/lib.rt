@@ -1,5 +1,6 @@
 // Speed, course, position, turn, heading, accuracy and manoeuvre of a report (messages/navigation.rs).
 // Every function answers for every number that its type holds. A value is absent, `None`, at document 01's number alone, and is else as sent.
+// Numbers are matched as they were sent: the paper's table says what each means.
 #![tactic(auto)]
 
 ghost use Rattle.std.specs.Prelude.{◌≡◌};
@@ -82,7 +83,8 @@ pub enum Accuracy {
 }
 
 impl Accuracy {
-    // The accuracy's one bit is a bool, so that Rust's `unreachable!` arm has no place. No `From`: `parse` is the crate's name for it.
+    // The accuracy's one bit is a bool, so that Rust's `unreachable!` arm has no place. No `From`: this public function
+    // stays (docs/PROMISES.md).
     pub fn parse(bit: bool) -> Self
         ensures { result ≡ accuracy_of bit }
     {
@@ -173,7 +175,8 @@ impl ManeuverIndicator {
         }
     }
 
-    // The number of a manoeuvre indicator, absent or not. No `From`: an impl for an `Option` cannot stand in this crate.
+    // The number of a manoeuvre indicator, absent or not. No `From`: that of the enum could not promise 0 for
+    // none, and one for an `Option` cannot stand in this crate.
     pub fn number(sent: Option<Self>) -> u8
         ensures { result ≡ manoeuvre_number sent }
     {

@@ -1,4 +1,5 @@
 // Position reports, types 1 to 3 (messages/position_report.rs).
+// Numbers are matched as they were sent: the paper's table says what each means.
 #![tactic(auto)]
 
 ghost use Rattle.std.specs.Prelude.{◌≡◌};
@@ -56,7 +57,8 @@ impl NavigationStatus {
         }
     }
 
-    // The number of a status, absent or not, as its four bits have it. No `From`: an impl for an `Option` cannot stand in this crate.
+    // The number of a status, absent or not, as its four bits have it. No `From`: that of the enum could not
+    // promise 15 for none, and one for an `Option` cannot stand in this crate.
     pub fn number(sent: Option<Self>) -> u8
         ensures { result ≡ status_number sent }
     {

@@ -65,7 +65,7 @@ impl Refusal {
 }
 
 // What a refusal also returns: how many values there are, the first and the second, each 0 where there is none.
-// Not an Option for each: these are the three numbers that the layout for C holds.
+// Not an Option for each: these are the three numbers of the C interface.
 #[derive(Clone, Copy)]
 pub struct Values {
     pub count: u64,

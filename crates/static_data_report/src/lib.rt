@@ -1,4 +1,5 @@
 // The static data report, type 24 (messages/static_data_report.rs).
+// Numbers are matched as they were sent: the paper's table says what each means.
 #![tactic(auto)]
 
 ghost use Rattle.std.specs.Prelude.{◌≡◌};

@@ -47,7 +47,8 @@ impl<'a> Output<'a> {
         self.put_some(s);
     }
 
-    // A string of which some may not fit.
+    // A string of which some may not fit. Of bytes and not of any type: what is put is defined over lists of numbers, and over any type all its laws would be
+    // stated anew.
     fn put_some(&mut self, s: &[u8])
         ensures { Puts self.old self.new s.now }
     {
@@ -93,6 +94,7 @@ impl<'a> Output<'a> {
     }
 }
 
+// Where an output goes, its lender finds in the buffer what stands there.
 impl Drop for Output<'_> {
     fn drop(self)
         ensures { self.exit.0.now ≡ self.entry.buffer.now }

@@ -40,7 +40,7 @@ pub fn decimal(line: &[u8], k: usize) -> Option<u64>
 }
 
 // Word k as bytes, read into a lent buffer: one or more pairs of lower-case hex digits, or `-` for no bytes. It tells how many
-// there are, or None, where the word has none or more than fit.
+// there are, or None, where the word has none or more than fit. An array and the count, as the protocol's calls lend them: no heap.
 pub fn bytes(line: &[u8], k: usize, into: &mut [u8]) -> Option<usize>
     ensures { Fills (word_at k line.now) into.old result into.new }
 {

@@ -28,6 +28,7 @@ pub struct Turned {
 }
 
 // The next command line that ends in the block, or at the end of the input what is held, answered.
+// As `decoding::turn` over lines: one function for both would take what is done with a line as a closure over the lent buffers, and read no plainer.
 pub fn turn(
     input: Input,
     ended: bool,
