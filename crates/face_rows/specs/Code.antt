@@ -4,7 +4,7 @@ use Rattle.face_rows.specs.declared.Test as held_test
 use Rattle.face_rows.specs.declared.Value as held_value
 use Rattle.face_rows.specs.declared.Row as held_row
 use Rattle.face_rows.specs.declared.Test.TheVariants.{Always, Is, IsNot, Least, Below}
-use Rattle.face_rows.specs.declared.Value.TheVariants.{Number, Signed, Tenths, Degrees, Quoted, Hexed, Pattern, Letter, Pair, Float}
+use Rattle.face_rows.specs.declared.Value.TheVariants.{Nothing, Number, Signed, Tenths, Degrees, Quoted, Hexed, Pattern, Letter, Pair, Float}
 use Rattle.face_rows.specs.declared.Row.TheVariants.{Words, Put, Group}
 use Rattle.face_rows.specs.Rows.{Test, always, is, is_not, least, below, Value, nothing, number, signed, tenths, degrees, quoted, hexed, pattern}
 use Rattle.face_rows.specs.Rows.{letter, pair, float, Row, row}
@@ -17,6 +17,7 @@ test_in (Least place n) = least place n
 test_in (Below place n) = below place n
 
 abbrev pub value_in : held_value.Value → Value
+value_in Nothing = nothing
 value_in (Number place) = number place
 value_in (Signed place) = signed place
 value_in (Tenths place) = tenths place

@@ -20,9 +20,10 @@ pub enum Test {
     Below(usize, u64),
 }
 
-// A value: of the number at a place, or of the text whose length is at a place and whose bytes start at another.
+// A value: of the number at a place, or of the text whose length is at a place and whose bytes start at another; or none, of which nothing is put.
 #[derive(Clone, Copy)]
 pub enum Value {
+    Nothing,
     Number(usize),
     Signed(usize),
     Tenths(usize),
@@ -37,9 +38,9 @@ pub enum Value {
 
 // A row of a table: a word, or a word and a value after it, put where a test holds; or a test on which so many rows after it depend.
 #[derive(Clone, Copy)]
-pub enum Row {
-    Words(Test, &'static [u8]),
-    Put(Test, &'static [u8], Value),
+pub enum Row<'a> {
+    Words(Test, &'a [u8]),
+    Put(Test, &'a [u8], Value),
     Group(Test, usize),
 }
 
@@ -100,6 +101,7 @@ pub fn put_value(out: &mut Output, value: Value, numbers: &[u64], texts: &[u8])
     ensures { Puts out.old out.new (value_text numbers.now texts.now (value_in value)) }
 {
     match value {
+        Value::Nothing => {}
         Value::Number(place) => out.put_decimal(number_at(numbers, place)),
         Value::Signed(place) => face_values::put_signed(out, number_at(numbers, place)),
         Value::Tenths(place) => face_values::put_tenths(out, number_at(numbers, place)),

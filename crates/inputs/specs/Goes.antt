@@ -83,6 +83,12 @@ abbrev pub Goes : Bool → Source → Next → ℕ → Gone → List ℕ → Typ
 Goes true source next used r block = Opens used r
 Goes false source next used r block = GoesOn source next used r block
 
+-- a status as the number that the launcher is told
+abbrev pub status_number : Status → ℕ
+status_number Status.Well = 0
+status_number Status.Failed = 1
+status_number Status.Wrong = 2
+
 -- a status other than that of a wrong word
 abbrev pub IsOfARun : Status → Type 0
 IsOfARun Status.Well = ⊤

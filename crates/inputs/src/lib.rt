@@ -6,7 +6,7 @@ ghost use Rattle.std.specs.Prelude.{◌≡◌, length};
 ghost use Rattle.std.specs.Io.{ReadsAtMost};
 ghost use Rattle.text_out.specs.Output.{Puts};
 ghost use Rattle.inputs.specs.Words.{IsPrefixLen, word_of, is_input, unknown_text, named_text};
-ghost use Rattle.inputs.specs.Goes.{is_on, is_last, source_of, Opens, Empties, Reads, ReadsOn, Goes, IsOfARun, Finishes};
+ghost use Rattle.inputs.specs.Goes.{is_on, is_last, source_of, Opens, Empties, Reads, ReadsOn, Goes, status_number, IsOfARun, Finishes};
 
 use std::env::FillError;
 use std::fs;
@@ -31,6 +31,19 @@ pub enum Status {
     Well,
     Failed,
     Wrong,
+}
+
+impl From<Status> for u8 {
+    ghost from_gives = { λ status n. n ≡ status_number status };
+
+    // The number of a status, as the launcher is told it.
+    fn from(status: Status) -> u8 {
+        match status {
+            Status::Well => 0,
+            Status::Failed => 1,
+            Status::Wrong => 2,
+        }
+    }
 }
 
 // The descriptor that the launcher reads the status from, by its name in the system's files.
@@ -287,9 +300,11 @@ fn begun(from: Origin, place: Option<usize>, used: usize, way: Way) -> Gone
     Gone { source, used, way }
 }
 
-// The place of the first word from a place on that names an input.
+// The place of the first word from a place on that names an input. It is sought word by word: all words counted for every input would cost their square.
 fn named_from(rt: &HostRuntime, from: usize) -> Option<usize> {
-    (from..arg_count(rt)).find(|&i| is_named(rt, i))
+    (from..usize::MAX)
+        .take_while(|&i| !is_past_end(rt, i))
+        .find(|&i| is_named(rt, i))
 }
 
 // Whether the word at a place names an input.
@@ -545,7 +560,8 @@ fn say_name(teller: &Teller, name: &[u8], error: Error) {
     let mut buffer = [0u8; 4352];
     let mut words = Output::new(&mut buffer, 0);
     put_name(&mut words, teller.program, name);
-    stream::fail(teller.rt, &words, error);
+    let end = words.at;
+    stream::fail(teller.rt, words.buffer, end, error);
 }
 
 // The words before the system's reason.
@@ -557,15 +573,11 @@ pub fn put_name(out: &mut Output, program: &[u8], name: &[u8])
     out.put_bytes(name);
 }
 
-// Tells the launcher the status that the program cannot end with itself.
-pub fn tell_status(rt: &HostRuntime, status: Status) {
-    let digit = match status {
-        Status::Well => b"0\n",
-        Status::Failed => b"1\n",
-        Status::Wrong => b"2\n",
-    };
+// Tells the launcher the status that the program cannot end with itself, by its number.
+pub fn tell_status(rt: &HostRuntime, status: u8) {
+    let digit = [b'0' + status % 10, b'\n'];
     if let Ok(told) = OpenOptions::new().append(true).open(rt, STATUS_FILE) {
         let mut to = told;
-        let _ = stream::write_out(rt, &mut to, digit, digit.len());
+        let _ = stream::write_out(rt, &mut to, &digit, digit.len());
     }
 }

@@ -24,12 +24,17 @@ use Rattle.messages.specs.declared.Message.{Message}
 abbrev outcome_by : Told Unit → Result Unit Refusal
 outcome_by = untold Ok Err
 
-outcome_back : (o : Result Unit Refusal) → outcome_by (parse_in o) ≡ o
-outcome_back (Ok u) = refl
+-- the outcome without what was read
+abbrev pub outcome_of : {A : Type 0} → Result A Refusal → Result Unit Refusal
+outcome_of (Ok a) = Ok tt
+outcome_of (Err r) = Err r
+
+outcome_back : {A : Type 0} (o : Result A Refusal) → outcome_by (parse_in o) ≡ outcome_of o
+outcome_back (Ok a) = refl
 outcome_back (Err r) = untold_told {A = Unit} Ok Err r
 
 -- two outcomes that tell the same, whatever the message
-pub same_parse : (o p : Result Unit Refusal) → parse_in o ≡ parse_in p → o ≡ p
+pub same_parse : {A : Type 0} (o p : Result A Refusal) → parse_in o ≡ parse_in p → outcome_of o ≡ outcome_of p
 same_parse o p e = sym (outcome_back o) ∙ ap outcome_by e ∙ outcome_back p
 
 abbrev decoded_by : Decoding → Result Message Refusal

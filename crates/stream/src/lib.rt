@@ -243,7 +243,8 @@ pub fn say_failure(teller: &Teller, doing: &[u8], name: &[u8], error: Error) {
     let mut buffer = [0u8; 4096];
     let mut words = Output::new(&mut buffer, 0);
     put_failure(&mut words, teller.program, teller.number, doing, name);
-    fail(teller.rt, &words, error);
+    let end = words.at;
+    fail(teller.rt, words.buffer, end, error);
 }
 
 // The words before the system's reason.
@@ -259,11 +260,11 @@ pub fn put_failure(out: &mut Output, program: &[u8], number: u64, doing: &[u8], 
     out.put_bytes(name);
 }
 
-// Says on standard error what failed, the words, then a colon and the system's reason.
-pub fn fail(rt: &HostRuntime, words: &Output, error: Error) {
+// Says on standard error what failed, the first `used` bytes of `words`, then a colon and the system's reason.
+pub fn fail(rt: &HostRuntime, words: &[u8], used: usize, error: Error) {
     let told = InlineText::<256>::of(error);
     let reason = reason_of(told.as_str()).as_bytes();
-    say(rt, words.buffer, words.at);
+    say(rt, words, used);
     say(rt, b": ", 2);
     say(rt, reason, reason.len());
     say(rt, b"\n", 1);

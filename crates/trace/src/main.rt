@@ -161,6 +161,6 @@ fn main(rt: HostRuntime) {
     let asked = ask(&rt);
     let status = answer(&rt, asked);
     if asked.status {
-        inputs::tell_status(&rt, status);
+        inputs::tell_status(&rt, u8::from(status));
     }
 }
